@@ -1,0 +1,171 @@
+-- Where an octet or a bit of an input stands in its reverse, and the hash of a reverse.
+-- Assumes nothing.
+use mathlib.Core.Path.{_≡_, refl, sym, ap, ap₂, _∙_}
+use mathlib.Core.List.{List, _++_}
+use mathlib.Core.Bool.{Bool, true, false}
+use Prim.Native.Nat.{ℕ, zero, suc, _+_, _*_, _/_, _%_, _^_, _-_, _≤_, _<_, min}
+use native.Mathlib.Decide.{decLt}
+use native.Mathlib.Omega.{arith}
+use lib.ListN.{length, getD, take, drop, length-append, length-take, length-drop, List·getD-append}
+use lib.Seq.{getD-append-add, getD-take, getD-drop}
+use lib.Dec.{ltb}
+use lib.Bits.{bitXor, xor-comm}
+use borrow.Author.Tests.{lt-ltb, le-ltb}
+use Rattle.toeplitz.specs.Hash.{bitAt, windowAt, whenSet, termAt, xorBelow, publishedHash}
+use Rattle.toeplitz.specs.TwoWay.{sizeOf, swapped}
+use Rattle.toeplitz.proofs.Sums.{below-same, below-split}
+
+-- which of the four parts k stands in, of two of length a and two of length p
+data Place (a p k : ℕ) : Type 0 where
+  part1 : k < a → Place a p k
+  part2 : a ≤ k → k < a + a → Place a p k
+  part3 : a + a ≤ k → k < a + a + p → Place a p k
+  part4 : a + a + p ≤ k → k < a + a + (p + p) → Place a p k
+
+place : (a p k : ℕ) → k < sizeOf a p → Place a p k
+place a p k h =
+    elim (decLt k a) [
+      | yes l ↦ part1 l
+      | no n ↦ elim (decLt k (a + a)) [
+        | yes l ↦ part2 (omega arith) l
+        | no m ↦ elim (decLt k (a + a + p)) [
+          | yes l ↦ part3 (omega arith) l
+          | no o ↦ part4 (omega arith) h
+        ]
+      ]
+    ]
+
+unfoldable pub pick : Bool → ℕ → ℕ → ℕ
+pick true x y = x
+pick false x y = y
+
+-- the place that the reverse exchanges with k
+unfoldable pub mirror : ℕ → ℕ → ℕ → ℕ
+mirror a p k = pick (ltb k a) (k + a) (pick (ltb k (a + a)) (k - a) (pick (ltb k (a + a + p)) (k + p) (k - p)))
+
+module _ (a p k : ℕ) where
+  pub mirror1 : k < a → mirror a p k ≡ k + a
+  unfolding mirror pick
+  mirror1 h = simp (lt-ltb _ _ h)
+
+  pub mirror2 : a ≤ k → k < a + a → mirror a p k ≡ k - a
+  unfolding mirror pick
+  mirror2 g h = simp (le-ltb _ _ g, lt-ltb _ _ h)
+
+  pub mirror3 : a + a ≤ k → k < a + a + p → mirror a p k ≡ k + p
+  unfolding mirror pick
+  mirror3 g h =
+      let g′ : a ≤ k = omega arith in
+      simp (le-ltb _ _ g′, le-ltb _ _ g, lt-ltb _ _ h)
+
+  pub mirror4 : a + a + p ≤ k → mirror a p k ≡ k - p
+  unfolding mirror pick
+  mirror4 g =
+      let g′ : a ≤ k = omega arith in
+      let g″ : a + a ≤ k = omega arith in
+      simp (le-ltb _ _ g′, le-ltb _ _ g″, le-ltb _ _ g)
+
+mirror-twice : (a p k : ℕ) → Place a p k → mirror a p (mirror a p k) ≡ k
+mirror-twice a p k (part1 h) = rw (mirror1 a p k h) (mirror2 a p (k + a) (omega arith) (omega arith) ∙ omega arith)
+mirror-twice a p k (part2 g h) = rw (mirror2 a p k g h) (mirror1 a p (k - a) (omega arith) ∙ omega arith)
+mirror-twice a p k (part3 g h) = rw (mirror3 a p k g h) (mirror4 a p (k + p) (omega arith) ∙ omega arith)
+mirror-twice a p k (part4 g h) = rw (mirror4 a p k g) (mirror3 a p (k - p) (omega arith) (omega arith) ∙ omega arith)
+
+-- eight bits to an octet
+mirror-bits : (a p i : ℕ) → Place (a * 8) (p * 8) i → (mirror a p (i / 8) ≡ mirror (a * 8) (p * 8) i / 8) × (mirror (a * 8) (p * 8) i % 8 ≡ i % 8)
+mirror-bits a p i (part1 h) = rw (mirror1 (a * 8) (p * 8) i h, mirror1 a p (i / 8) (omega arith)) (omega arith, omega arith)
+mirror-bits a p i (part2 g h) = rw (mirror2 (a * 8) (p * 8) i g h, mirror2 a p (i / 8) (omega arith) (omega arith)) (omega arith, omega arith)
+mirror-bits a p i (part3 g h) = rw (mirror3 (a * 8) (p * 8) i g h, mirror3 a p (i / 8) (omega arith) (omega arith)) (omega arith, omega arith)
+mirror-bits a p i (part4 g h) = rw (mirror4 (a * 8) (p * 8) i g, mirror4 a p (i / 8) (omega arith)) (omega arith, omega arith)
+
+-- a sum by XOR does not change where its terms are exchanged so
+below-mirror : (f : ℕ → ℕ) (a p : ℕ) → xorBelow f (sizeOf a p) ≡ xorBelow (λ i. f (mirror a p i)) (sizeOf a p)
+below-mirror f a p =
+    parts f
+    ∙ ap₂ bitXor (xor-comm (xorBelow f a) (xorBelow (λ j. f (a + j)) a)) (xor-comm (xorBelow (λ j. f (a + a + j)) p) (xorBelow (λ j. f (a + a + (p + j))) p))
+    ∙ ap₂ bitXor
+    (ap₂ bitXor
+    (below-same _ _ a (λ j h. ap f (omega (arith, mirror1 a p j h))))
+    (below-same _ _ a (λ j h. ap f (omega (arith, mirror2 a p (a + j) (omega arith) (omega arith))))))
+    (ap₂ bitXor
+    (below-same _ _ p (λ j h. ap f (omega (arith, mirror3 a p (a + a + j) (omega arith) (omega arith)))))
+    (below-same _ _ p (λ j h. ap f (omega (arith, mirror4 a p (a + a + (p + j)) (omega arith))))))
+    ∙ sym (parts (λ i. f (mirror a p i)))
+  where
+    parts : (g : ℕ → ℕ) → xorBelow g (sizeOf a p)
+        ≡ bitXor (bitXor (xorBelow g a) (xorBelow (λ j. g (a + j)) a)) (bitXor (xorBelow (λ j. g (a + a + j)) p) (xorBelow (λ j. g (a + a + (p + j))) p))
+    parts g = below-split g (a + a) (p + p) ∙ ap₂ bitXor (below-split g a a) (below-split (λ j. g (a + a + j)) p p)
+
+getD-second : (xs ys : List ℕ) (n k : ℕ) → length xs ≡ n → n ≤ k → getD (xs ++ ys) k 0 ≡ getD ys (k - n) 0
+getD-second xs ys n k e h =
+    let s : k ≡ length xs + (k - n) = omega arith in
+    ap (λ (m : ℕ). getD (xs ++ ys) m 0) s ∙ getD-append-add xs ys (k - n) 0
+
+getD-first : (xs ys : List ℕ) (n k : ℕ) → length xs ≡ n → k < n → getD (xs ++ ys) k 0 ≡ getD xs k 0
+getD-first xs ys n k e h = List·getD-append xs ys 0 k (omega arith)
+
+part-length : (xs : List ℕ) (m n : ℕ) → n + m ≤ length xs → length (take m (drop n xs)) ≡ m
+part-length xs m n h = simp (length-take, length-drop) (omega arith)
+
+module _ (a p : ℕ) (xs : List ℕ) (e : length xs ≡ sizeOf a p) where
+  abbrev a1 : List ℕ
+  a1 = take a xs
+
+  abbrev a2 : List ℕ
+  a2 = take a (drop a xs)
+
+  abbrev p1 : List ℕ
+  p1 = take p (drop (a + a) xs)
+
+  abbrev p2 : List ℕ
+  p2 = take p (drop (a + a + p) xs)
+
+  l1 : length a2 ≡ a
+  l1 = part-length xs a a (omega arith)
+
+  l2 : length a1 ≡ a
+  l2 = part-length xs a 0 (omega arith)
+
+  l3 : length p2 ≡ p
+  l3 = part-length xs p (a + a + p) (omega arith)
+
+  pub length-swapped : length (swapped a p xs) ≡ length xs
+  unfolding swapped
+  length-swapped = simp length-append (omega (arith, l1, l2, l3, part-length xs p (a + a) (omega arith)))
+
+  getD-swapped : (k : ℕ) → Place a p k → getD (swapped a p xs) k 0 ≡ getD xs (mirror a p k) 0
+  unfolding swapped
+  getD-swapped k (part1 h) =
+      getD-first a2 (a1 ++ (p2 ++ p1)) a k l1 h ∙ getD-take a (drop a xs) k 0 h ∙ getD-drop a xs k 0
+      ∙ ap (λ (m : ℕ). getD xs m 0) (omega (arith, mirror1 a p k h))
+  getD-swapped k (part2 g h) =
+      getD-second a2 (a1 ++ (p2 ++ p1)) a k l1 g ∙ getD-first a1 (p2 ++ p1) a (k - a) l2 (omega arith) ∙ getD-take a xs (k - a) 0 (omega arith)
+      ∙ ap (λ (m : ℕ). getD xs m 0) (sym (mirror2 a p k g h))
+  getD-swapped k (part3 g h) =
+      getD-second a2 (a1 ++ (p2 ++ p1)) a k l1 (omega arith) ∙ getD-second a1 (p2 ++ p1) a (k - a) l2 (omega arith)
+      ∙ getD-first p2 p1 p (k - a - a) l3 (omega arith) ∙ getD-take p (drop (a + a + p) xs) (k - a - a) 0 (omega arith)
+      ∙ getD-drop (a + a + p) xs (k - a - a) 0
+      ∙ ap (λ (m : ℕ). getD xs m 0) (omega (arith, mirror3 a p k g h))
+  getD-swapped k (part4 g h) =
+      getD-second a2 (a1 ++ (p2 ++ p1)) a k l1 (omega arith) ∙ getD-second a1 (p2 ++ p1) a (k - a) l2 (omega arith)
+      ∙ getD-second p2 p1 p (k - a - a) l3 (omega arith) ∙ getD-take p (drop (a + a) xs) (k - a - a - p) 0 (omega arith)
+      ∙ getD-drop (a + a) xs (k - a - a - p) 0
+      ∙ ap (λ (m : ℕ). getD xs m 0) (omega (arith, mirror4 a p k g))
+
+  bitAt-swapped : (i : ℕ) → i < sizeOf (a * 8) (p * 8) → bitAt (swapped a p xs) i ≡ bitAt xs (mirror (a * 8) (p * 8) i)
+  bitAt-swapped i h =
+      let m = mirror-bits a p i (place (a * 8) (p * 8) i h) in
+      ap₂ (λ (x y : ℕ). x / 2 ^ (7 - y) % 2)
+      (getD-swapped (i / 8) (place a p (i / 8) (omega arith)) ∙ ap (λ (k : ℕ). getD xs k 0) (m .0))
+      (sym (m .1))
+
+  -- the hash of the reverse: each set bit of the input counts with the window of its mirror
+  pub hash-swapped : (key : List ℕ) → publishedHash key (swapped a p xs)
+      ≡ xorBelow (λ i. whenSet (bitAt xs i) (windowAt key (mirror (a * 8) (p * 8) i))) (sizeOf (a * 8) (p * 8))
+  unfolding publishedHash termAt
+  hash-swapped key =
+      let n : length (swapped a p xs) * 8 ≡ sizeOf (a * 8) (p * 8) = omega (arith, length-swapped) in
+      ap (xorBelow (termAt key (swapped a p xs))) n
+      ∙ below-same _ _ (sizeOf (a * 8) (p * 8))
+      (λ i h. ap₂ whenSet (bitAt-swapped i h) (ap (windowAt key) (sym (mirror-twice (a * 8) (p * 8) i (place (a * 8) (p * 8) i h)))))
+      ∙ sym (below-mirror (λ i. whenSet (bitAt xs i) (windowAt key (mirror (a * 8) (p * 8) i))) (a * 8) (p * 8))

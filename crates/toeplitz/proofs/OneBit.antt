@@ -1,0 +1,111 @@
+-- Inputs with a single bit set: their octets, their bits, and their hash, which is the window at that bit.
+-- Assumes nothing.
+use mathlib.Core.Path.{_≡_, refl, sym, ap, _∙_}
+use mathlib.Core.List.{List}
+use mathlib.Core.Bool.{Bool, true, false, _&&_}
+use Prim.Native.Nat.{ℕ, zero, suc, _+_, _*_, _/_, _%_, _^_, _-_, _≤_, _<_}
+use native.Mathlib.Nat.{zero-div}
+use native.Mathlib.Decide.{ℕ-discrete}
+use native.Mathlib.Omega.{arith}
+use lib.ListN.{length, getD, set, replicate, length-set, length-replicate}
+use lib.Seq.{getD-set-same, getD-set-other}
+use lib.Pow.{pow-lt}
+use lib.Dec.{T, eqb, eqb→eq}
+use borrow.Author.Tests.{eq-eqb, ne-eqb}
+use Rattle.toeplitz.specs.Hash.{bitAt, windowAt, whenSet, termAt, xorBelow, publishedHash}
+use Rattle.toeplitz.specs.TwoWay.{inputSize, IsInput, oneBit}
+use Rattle.toeplitz.proofs.Sums.{below-one}
+
+-- a test at every number below n, computed
+both-parts : (a b : Bool) → T (a && b) → T a × T b
+both-parts true b t = (tt, t)
+both-parts false b t = absurd t
+
+abbrev all : (ℕ → Bool) → ℕ → Bool
+all f zero = true
+all f (suc n) = f n && all f n
+
+all-at : (f : ℕ → Bool) (n : ℕ) → T (all f n) → (k : ℕ) → k < n → T (f k)
+all-at f zero t k h = absurd (omega arith)
+all-at f (suc n) t k h =
+    elim (ℕ-discrete k n) [
+      | yes e ↦ rw e (both-parts (f n) (all f n) t .0)
+      | no d ↦ all-at f n (both-parts (f n) (all f n) t .1) k (omega arith)
+    ]
+
+-- the bits of an octet with one bit set
+abbrev one-if : Bool → ℕ
+one-if true = 1
+one-if false = 0
+
+abbrev cell : ℕ → ℕ → Bool
+cell p q = eqb (2 ^ p / 2 ^ q % 2) (one-if (eqb p q))
+
+octet-bit : (p q : ℕ) → p < 8 → q < 8 → 2 ^ p / 2 ^ q % 2 ≡ one-if (eqb p q)
+octet-bit p q hp hq = eqb→eq _ _ (all-at (cell p) 8 (all-at (λ x. all (cell x) 8) 8 tt p hp) q hq)
+
+zeros : (n i : ℕ) → getD {A = ℕ} (replicate n 0) i 0 ≡ 0
+zeros zero i = refl
+zeros (suc n) zero = refl
+zeros (suc n) (suc i) = zeros n i
+
+module _ (n b : ℕ) (h : b < n * 8) where
+  abbrev top : ℕ
+  top = 2 ^ (7 - b % 8)
+
+  here : b / 8 < length {A = ℕ} (replicate n 0)
+  here = simp length-replicate (omega arith)
+
+  pub length-one : length (oneBit n b) ≡ n
+  unfolding oneBit
+  length-one = simp (length-set, length-replicate)
+
+  octet-same : getD (oneBit n b) (b / 8) 0 ≡ top
+  unfolding oneBit
+  octet-same = getD-set-same (replicate n 0) (b / 8) top 0 here
+
+  octet-other : (k : ℕ) → (k ≡ b / 8 → ⊥) → getD (oneBit n b) k 0 ≡ 0
+  unfolding oneBit
+  octet-other k m = getD-set-other (replicate n 0) (b / 8) k top 0 m ∙ zeros n k
+
+  octets-one : (i : ℕ) → getD (oneBit n b) i 0 < 256
+  octets-one i =
+      elim (ℕ-discrete i (b / 8)) [
+        | yes e ↦ rw (e, octet-same) (pow-lt {i = 7 - b % 8} {j = 8} (omega arith))
+        | no m ↦ rw (octet-other i m) (omega arith)
+      ]
+
+  bit-same : bitAt (oneBit n b) b ≡ 1
+  bit-same =
+      ap (λ (x : ℕ). x / 2 ^ (7 - b % 8) % 2) octet-same
+      ∙ octet-bit (7 - b % 8) (7 - b % 8) (omega arith) (omega arith)
+      ∙ ap one-if (eq-eqb (7 - b % 8) (7 - b % 8) refl)
+
+  bit-other : (i : ℕ) → i < n * 8 → (i ≡ b → ⊥) → bitAt (oneBit n b) i ≡ 0
+  bit-other i l d =
+      elim (ℕ-discrete (i / 8) (b / 8)) [
+        | yes e ↦
+            ap (λ (x : ℕ). x / 2 ^ (7 - i % 8) % 2) (ap (λ (k : ℕ). getD (oneBit n b) k 0) e ∙ octet-same)
+            ∙ octet-bit (7 - b % 8) (7 - i % 8) (omega arith) (omega arith)
+            ∙ ap one-if (ne-eqb (7 - b % 8) (7 - i % 8) (λ q. d (omega arith)))
+        | no m ↦
+            ap (λ (x : ℕ). x / 2 ^ (7 - i % 8) % 2) (octet-other (i / 8) m)
+            ∙ ap (λ (x : ℕ). x % 2) (zero-div (2 ^ (7 - i % 8)))
+      ]
+
+-- it is an input of its type
+pub one-is-input : (t b : ℕ) → b < inputSize t * 8 → IsInput t (oneBit (inputSize t) b)
+one-is-input t b h = record { size = length-one (inputSize t) b h; octets = octets-one (inputSize t) b h }
+
+-- a sum over the set bits of a single-bit input is its one term
+pub sum-one : (w : ℕ → ℕ) (n b : ℕ) → b < n * 8 → xorBelow (λ i. whenSet (bitAt (oneBit n b) i) (w i)) (n * 8) ≡ w b
+unfolding whenSet
+sum-one w n b h =
+    below-one _ (n * 8) b h (λ i l d. ap (λ (x : ℕ). whenSet x (w i)) (bit-other n b h i l d))
+    ∙ ap (λ (x : ℕ). whenSet x (w b)) (bit-same n b h)
+
+-- the hash of a single-bit input is the window at its bit
+pub hash-one : (key : List ℕ) (n b : ℕ) → b < n * 8 → publishedHash key (oneBit n b) ≡ windowAt key b
+unfolding publishedHash termAt
+hash-one key n b h =
+    ap (λ (m : ℕ). xorBelow (termAt key (oneBit n b)) (m * 8)) (length-one n b h) ∙ sum-one (windowAt key) n b h

@@ -1,0 +1,3 @@
+-- A key that repeats every two octets: windows 16 bits apart are equal, and an input's bit and its mirror stand
+-- a multiple of 16 bits apart.
+-- Assumes nothing.

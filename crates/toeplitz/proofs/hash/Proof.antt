@@ -1,0 +1,22 @@
+-- `toeplitz::hash` meets its contract: the tests on the way to each return pick the case of `hashOutcome`.
+-- Assumes nothing.
+use mathlib.Core.Path.{ap}
+use borrow.Author.Needs.{needs}
+use borrow.Author.Tests.{eq-eqb, ne-eqb, le-leb, lt-leb}
+use Rattle.toeplitz.specs.Outcome.{value}
+use Rattle.toeplitz.proofs.hash.Statement.{statement}
+use Rattle.toeplitz.proofs.hash.Tie as tie
+
+returns : tie.Need-returns
+returns c = simp (ne-eqb _ _ (c .if1 .taken))
+
+returns-2 : tie.Need-returns-2
+returns-2 c = simp (eq-eqb _ _ (c .before .if1 .left), lt-leb _ _ (c .if2 .taken))
+
+returns-3 : tie.Need-returns-3
+returns-3 c =
+    simp (eq-eqb _ _ (c .before .before .if1 .left), le-leb _ _ (c .before .if2 .left))
+    (ap value (c .hash-of .ensures))
+
+pub hash-spec : {M : Type 1} → statement M
+hash-spec = tie.close (tie.spec returns returns-2 (λ c κs. search needs) returns-3)

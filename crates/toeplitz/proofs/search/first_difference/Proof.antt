@@ -1,0 +1,66 @@
+-- `toeplitz::search::first_difference` meets its contract. The loop's invariant: the two windows, and that all below j are equal.
+-- Assumes nothing.
+use mathlib.Core.Path.{_≡_, sym, _∙_}
+use Prim.Native.Nat.{_≤_, _+_, _*_, _-_}
+use native.Mathlib.Nat.{add-zero, add-assoc}
+use native.Mathlib.Omega.{arith}
+use borrow.Author.Needs.{needs}
+use borrow.Author.Count.{below-more}
+use Rattle.toeplitz.specs.Hash.{windowAt}
+use Rattle.toeplitz.specs.Search.{SameBelow}
+use Rattle.toeplitz.proofs.search.first_difference.Statement.{statement}
+use Rattle.toeplitz.proofs.search.first_difference.Tie as tie
+
+abbrev Inv-loop : tie.InvT-loop
+Inv-loop key at size left₀ right₀ j₀ left right j =
+    (j ≤ size * 8) × (left ≡ windowAt key (at * 8 + j)) × (right ≡ windowAt key ((at + size) * 8 + j))
+    × SameBelow key (at * 8) ((at + size) * 8) j
+
+abbrev μ-loop : tie.MeasureT-loop
+μ-loop key at size left₀ right₀ j₀ left right j = size * 8 - j
+
+loop-holds : tie.Need-loop-holds Inv-loop μ-loop
+loop-holds c = (
+  omega arith,
+  rw add-zero (c .before .octet-window .ensures),
+  rw add-zero (c .octet-window2 .ensures),
+  λ k h. absurd (omega arith),
+)
+
+returns : tie.Need-returns Inv-loop μ-loop
+returns c =
+    let inv = c .before .before .loop .inv in
+    (omega arith, λ e. c .if1 .taken (inv .1 ∙ e ∙ sym (inv .2)), inv .3)
+
+loop-again : tie.Need-loop-again Inv-loop μ-loop
+loop-again c =
+    let inv = c .before .before .before .before .loop .inv in (
+      omega arith,
+      rw (← add-assoc) (c .before .next-window .ensures),
+      rw (← add-assoc) (c .next-window2 .ensures),
+      below-more _ _ (inv .3) (sym (inv .1) ∙ c .before .before .if1 .left ∙ inv .2),
+    )
+
+pub first-difference-spec : {M : Type 1} → statement M
+first-difference-spec =
+    tie.close
+    (tie.spec
+    Inv-loop
+    μ-loop
+    (λ c κs. search needs)
+    (λ c. search needs)
+    (λ c κs. search needs)
+    loop-holds
+    (λ c. search needs)
+    returns
+    (λ c. search needs)
+    (λ c. search needs)
+    (λ c κs. (omega arith, omega arith, c .before .before .loop .inv .1))
+    (λ c. search needs)
+    (λ c. search needs)
+    (λ c. search needs)
+    (λ c κs. (omega arith, omega arith, c .before .before .before .loop .inv .2))
+    (λ c. search needs)
+    (λ c. search needs)
+    loop-again
+    (λ c k h. c .before .loop .inv .3 k (omega arith)))

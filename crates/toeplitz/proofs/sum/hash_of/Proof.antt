@@ -1,0 +1,46 @@
+-- `toeplitz::sum::hash_of` meets its contract. The loop's invariant: the input bits of the octets below `at` are done.
+-- Assumes nothing.
+use mathlib.Core.Path.{_≡_, refl}
+use Prim.Native.Nat.{_≤_, _+_, _*_, _-_}
+use native.Mathlib.Omega.{arith}
+use borrow.Author.Needs.{needs}
+use lib.ListN.{length}
+use Rattle.toeplitz.specs.Hash.{xorBelow, publishedHash, Reached}
+use Rattle.toeplitz.proofs.sum.hash_of.Statement.{statement}
+use Rattle.toeplitz.proofs.sum.hash_of.Tie as tie
+
+abbrev Inv-loop : tie.InvT-loop
+Inv-loop key input window₀ sum₀ at₀ window sum at = (at ≤ length input) × Reached key input (at * 8) window sum
+
+abbrev μ-loop : tie.MeasureT-loop
+μ-loop key input window₀ sum₀ at₀ window sum at = length input - at
+
+loop-holds : tie.Need-loop-holds Inv-loop μ-loop
+unfolding xorBelow
+loop-holds c = (omega arith, record { here = c .octet-window .ensures; so-far = refl })
+
+loop-again : tie.Need-loop-again Inv-loop μ-loop
+loop-again c =
+    let at = c .before .before .loop .at in
+    let e : at * 8 + 8 ≡ (at + 1) * 8 = omega arith in
+    (omega arith, rw e at (c .add-octet .ensures))
+
+returns : tie.Need-returns Inv-loop μ-loop
+unfolding publishedHash
+returns c =
+    let e : c .before .loop .at ≡ length (c .before .before .before .before .before .args .input .now) = omega arith in
+    rw e at (c .before .loop .inv .1 .so-far)
+
+pub hash-of-spec : {M : Type 1} → statement M
+hash-of-spec =
+    tie.close
+    (tie.spec
+    Inv-loop
+    μ-loop
+    (λ c κs. search needs)
+    loop-holds
+    (λ c κs. ((omega arith, omega arith, omega arith), c .before .loop .inv .1))
+    (λ c. search needs)
+    (λ c. search needs)
+    loop-again
+    returns)

@@ -1,0 +1,6 @@
+-- The definitions that the contracts of `toeplitz` cite, in the order of document 01.
+pub mod Outcome
+pub mod Hash
+pub mod Xor
+pub mod TwoWay
+pub mod Search

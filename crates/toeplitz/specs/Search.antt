@@ -1,0 +1,17 @@
+-- What the search for a difference between two runs of windows promises to `two_way`.
+-- Assumes nothing.
+use mathlib.Core.Path.{_≡_}
+use mathlib.Core.List.{List}
+use Prim.Native.Nat.{ℕ, _+_, _<_}
+use Rattle.toeplitz.specs.Hash.{windowAt}
+use Rattle.toeplitz.specs.declared.search.Found.{Found}
+use Rattle.toeplitz.specs.declared.search.Found.the-variants.{At, Nothing}
+
+-- the windows at i + k and at m + k are equal at each k below n
+abbrev pub SameBelow : List ℕ → ℕ → ℕ → ℕ → Type 0
+SameBelow key i m n = (k : ℕ) → k < n → windowAt key (i + k) ≡ windowAt key (m + k)
+
+-- at j: the first k below n at which they differ; nothing: they are equal at each
+abbrev pub FoundIn : List ℕ → ℕ → ℕ → ℕ → Found → Type 0
+FoundIn key i m n (At j) = (j < n) × (windowAt key (i + j) ≡ windowAt key (m + j) → ⊥) × SameBelow key i m j
+FoundIn key i m n Nothing = SameBelow key i m n

@@ -1,0 +1,11 @@
+-- The XOR of two keys, or of two inputs of one length: octet by octet.
+-- Assumes nothing.
+use mathlib.Core.List.{List, [], _∷_}
+use Prim.Native.Nat.{ℕ}
+use lib.Bits.{bitXor}
+
+-- (of two lists of unequal length, the longer one's other octets stay)
+unfoldable pub xorOctets : List ℕ → List ℕ → List ℕ
+xorOctets [] ys = ys
+xorOctets (x ∷ xs) [] = x ∷ xs
+xorOctets (x ∷ xs) (y ∷ ys) = bitXor x y ∷ xorOctets xs ys

@@ -1,0 +1,43 @@
+// The windows of a key: 32 bits each, read in place from the lent octets.
+ghost use mathlib.Core.Path.{_≡_};
+ghost use Prim.Native.Nat.{_+_, _*_, _<_, _≤_};
+ghost use lib.ListN.{length};
+ghost use Rattle.toeplitz.specs.Hash.{keyLength, bitAt, windowAt, fourOctets};
+
+// Bit `i` of the octets, of which bit 0 is the top bit of octet 0.
+pub fn bit_at(octets: &[u8], i: usize) -> u32
+    requires { ⌜ i < length (now octets) * 8 ⌝ }
+    ensures { λ r. ⌜ r ≡ bitAt (now (octets .entry)) i ⌝ }
+{
+    ((octets[i / 8] >> (7 - i % 8)) % 2) as u32
+}
+
+// The window at `i + 1`, from the window at `i`: the top bit goes, and the next key bit is drawn in.
+pub fn next_window(key: &[u8], window: u32, i: usize) -> u32
+    requires { ⌜ (length (now key) ≡ keyLength) × (i < 288) × (window ≡ windowAt (now key) i) ⌝ }
+    ensures { λ r. ⌜ r ≡ windowAt (now (key .entry)) (i + 1) ⌝ }
+{
+    window % 2147483648 * 2 + bit_at(key, i + 32)
+}
+
+// The window at the top bit of octet `a`.
+pub fn octet_window(key: &[u8], a: usize) -> u32
+    requires { ⌜ a + 4 ≤ length (now key) ⌝ }
+    ensures { λ r. ⌜ r ≡ windowAt (now (key .entry)) (a * 8) ⌝ }
+{
+    four_octets(key, a)
+}
+
+// The four octets from octet `a` on, the first on top.
+fn four_octets(key: &[u8], a: usize) -> u32
+    requires { ⌜ a + 4 ≤ length (now key) ⌝ }
+    ensures { λ r. ⌜ r ≡ fourOctets (now (key .entry)) a ⌝ }
+{
+    ((wide(key[a]) * 256 + wide(key[a + 1])) * 256 + wide(key[a + 2])) * 256 + wide(key[a + 3])
+}
+
+fn wide(x: u8) -> u32
+    ensures { λ r. ⌜ (r ≡ x) × (r < 256) ⌝ }
+{
+    x as u32
+}
