@@ -8,4 +8,6 @@ pub mod Lowest
 pub mod TwoWays
 pub mod Searches
 pub mod Period
+pub mod Reverses
+pub mod Outcomes
 pub mod Theorems

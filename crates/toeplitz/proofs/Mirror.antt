@@ -16,13 +16,13 @@ use Rattle.toeplitz.specs.TwoWay.{sizeOf, swapped}
 use Rattle.toeplitz.proofs.Sums.{below-same, below-split}
 
 -- which of the four parts k stands in, of two of length a and two of length p
-data Place (a p k : ℕ) : Type 0 where
+pub data Place (a p k : ℕ) : Type 0 where
   part1 : k < a → Place a p k
   part2 : a ≤ k → k < a + a → Place a p k
   part3 : a + a ≤ k → k < a + a + p → Place a p k
   part4 : a + a + p ≤ k → k < a + a + (p + p) → Place a p k
 
-place : (a p k : ℕ) → k < sizeOf a p → Place a p k
+pub place : (a p k : ℕ) → k < sizeOf a p → Place a p k
 place a p k h =
     elim (decLt k a) [
       | yes l ↦ part1 l
@@ -65,36 +65,49 @@ module _ (a p k : ℕ) where
       let g″ : a + a ≤ k = omega arith in
       simp (le-ltb _ _ g′, le-ltb _ _ g″, le-ltb _ _ g)
 
-mirror-twice : (a p k : ℕ) → Place a p k → mirror a p (mirror a p k) ≡ k
+pub mirror-twice : (a p k : ℕ) → Place a p k → mirror a p (mirror a p k) ≡ k
 mirror-twice a p k (part1 h) = rw (mirror1 a p k h) (mirror2 a p (k + a) (omega arith) (omega arith) ∙ omega arith)
 mirror-twice a p k (part2 g h) = rw (mirror2 a p k g h) (mirror1 a p (k - a) (omega arith) ∙ omega arith)
 mirror-twice a p k (part3 g h) = rw (mirror3 a p k g h) (mirror4 a p (k + p) (omega arith) ∙ omega arith)
 mirror-twice a p k (part4 g h) = rw (mirror4 a p k g) (mirror3 a p (k - p) (omega arith) (omega arith) ∙ omega arith)
 
+pub mirror-lt : (a p k : ℕ) → Place a p k → mirror a p k < sizeOf a p
+mirror-lt a p k (part1 h) = omega (arith, mirror1 a p k h)
+mirror-lt a p k (part2 g h) = omega (arith, mirror2 a p k g h)
+mirror-lt a p k (part3 g h) = omega (arith, mirror3 a p k g h)
+mirror-lt a p k (part4 g h) = omega (arith, mirror4 a p k g)
+
 -- eight bits to an octet
-mirror-bits : (a p i : ℕ) → Place (a * 8) (p * 8) i → (mirror a p (i / 8) ≡ mirror (a * 8) (p * 8) i / 8) × (mirror (a * 8) (p * 8) i % 8 ≡ i % 8)
+mirror-bits : (a p i : ℕ) → Place (a * 8) (p * 8) i
+    → (mirror a p (i / 8) ≡ mirror (a * 8) (p * 8) i / 8) × (mirror (a * 8) (p * 8) i % 8 ≡ i % 8)
 mirror-bits a p i (part1 h) = rw (mirror1 (a * 8) (p * 8) i h, mirror1 a p (i / 8) (omega arith)) (omega arith, omega arith)
-mirror-bits a p i (part2 g h) = rw (mirror2 (a * 8) (p * 8) i g h, mirror2 a p (i / 8) (omega arith) (omega arith)) (omega arith, omega arith)
-mirror-bits a p i (part3 g h) = rw (mirror3 (a * 8) (p * 8) i g h, mirror3 a p (i / 8) (omega arith) (omega arith)) (omega arith, omega arith)
+mirror-bits a p i (part2 g h) =
+    rw (mirror2 (a * 8) (p * 8) i g h, mirror2 a p (i / 8) (omega arith) (omega arith)) (omega arith, omega arith)
+mirror-bits a p i (part3 g h) =
+    rw (mirror3 (a * 8) (p * 8) i g h, mirror3 a p (i / 8) (omega arith) (omega arith)) (omega arith, omega arith)
 mirror-bits a p i (part4 g h) = rw (mirror4 (a * 8) (p * 8) i g, mirror4 a p (i / 8) (omega arith)) (omega arith, omega arith)
 
--- a sum by XOR does not change where its terms are exchanged so
+-- a sum over two parts of length n does not change where g has their terms exchanged
+swap-parts : (f g : ℕ → ℕ) (n : ℕ) → ((j : ℕ) → j < n → f j ≡ g (n + j)) → ((j : ℕ) → j < n → f (n + j) ≡ g j)
+    → xorBelow f (n + n) ≡ xorBelow g (n + n)
+swap-parts f g n to back =
+    below-split f n n
+    ∙ xor-comm (xorBelow f n) (xorBelow (λ j. f (n + j)) n)
+    ∙ ap₂ bitXor (below-same _ g n back) (below-same f _ n to)
+    ∙ sym (below-split g n n)
+
+-- so a sum by XOR does not change where its terms are mirrored
 below-mirror : (f : ℕ → ℕ) (a p : ℕ) → xorBelow f (sizeOf a p) ≡ xorBelow (λ i. f (mirror a p i)) (sizeOf a p)
 below-mirror f a p =
-    parts f
-    ∙ ap₂ bitXor (xor-comm (xorBelow f a) (xorBelow (λ j. f (a + j)) a)) (xor-comm (xorBelow (λ j. f (a + a + j)) p) (xorBelow (λ j. f (a + a + (p + j))) p))
+    below-split f (a + a) (p + p)
     ∙ ap₂ bitXor
-    (ap₂ bitXor
-    (below-same _ _ a (λ j h. ap f (omega (arith, mirror1 a p j h))))
-    (below-same _ _ a (λ j h. ap f (omega (arith, mirror2 a p (a + j) (omega arith) (omega arith))))))
-    (ap₂ bitXor
-    (below-same _ _ p (λ j h. ap f (omega (arith, mirror3 a p (a + a + j) (omega arith) (omega arith)))))
-    (below-same _ _ p (λ j h. ap f (omega (arith, mirror4 a p (a + a + (p + j)) (omega arith))))))
-    ∙ sym (parts (λ i. f (mirror a p i)))
-  where
-    parts : (g : ℕ → ℕ) → xorBelow g (sizeOf a p)
-        ≡ bitXor (bitXor (xorBelow g a) (xorBelow (λ j. g (a + j)) a)) (bitXor (xorBelow (λ j. g (a + a + j)) p) (xorBelow (λ j. g (a + a + (p + j))) p))
-    parts g = below-split g (a + a) (p + p) ∙ ap₂ bitXor (below-split g a a) (below-split (λ j. g (a + a + j)) p p)
+    (swap-parts f (λ i. f (mirror a p i)) a
+    (λ j h. ap f (omega (arith, mirror2 a p (a + j) (omega arith) (omega arith))))
+    (λ j h. ap f (omega (arith, mirror1 a p j h))))
+    (swap-parts (λ j. f (a + a + j)) (λ j. f (mirror a p (a + a + j))) p
+    (λ j h. ap f (omega (arith, mirror4 a p (a + a + (p + j)) (omega arith))))
+    (λ j h. ap f (omega (arith, mirror3 a p (a + a + j) (omega arith) (omega arith)))))
+    ∙ sym (below-split (λ i. f (mirror a p i)) (a + a) (p + p))
 
 getD-second : (xs ys : List ℕ) (n k : ℕ) → length xs ≡ n → n ≤ k → getD (xs ++ ys) k 0 ≡ getD ys (k - n) 0
 getD-second xs ys n k e h =
@@ -133,13 +146,14 @@ module _ (a p : ℕ) (xs : List ℕ) (e : length xs ≡ sizeOf a p) where
   unfolding swapped
   length-swapped = simp length-append (omega (arith, l1, l2, l3, part-length xs p (a + a) (omega arith)))
 
-  getD-swapped : (k : ℕ) → Place a p k → getD (swapped a p xs) k 0 ≡ getD xs (mirror a p k) 0
+  pub getD-swapped : (k : ℕ) → Place a p k → getD (swapped a p xs) k 0 ≡ getD xs (mirror a p k) 0
   unfolding swapped
   getD-swapped k (part1 h) =
       getD-first a2 (a1 ++ (p2 ++ p1)) a k l1 h ∙ getD-take a (drop a xs) k 0 h ∙ getD-drop a xs k 0
       ∙ ap (λ (m : ℕ). getD xs m 0) (omega (arith, mirror1 a p k h))
   getD-swapped k (part2 g h) =
-      getD-second a2 (a1 ++ (p2 ++ p1)) a k l1 g ∙ getD-first a1 (p2 ++ p1) a (k - a) l2 (omega arith) ∙ getD-take a xs (k - a) 0 (omega arith)
+      getD-second a2 (a1 ++ (p2 ++ p1)) a k l1 g ∙ getD-first a1 (p2 ++ p1) a (k - a) l2 (omega arith)
+      ∙ getD-take a xs (k - a) 0 (omega arith)
       ∙ ap (λ (m : ℕ). getD xs m 0) (sym (mirror2 a p k g h))
   getD-swapped k (part3 g h) =
       getD-second a2 (a1 ++ (p2 ++ p1)) a k l1 (omega arith) ∙ getD-second a1 (p2 ++ p1) a (k - a) l2 (omega arith)

@@ -2,19 +2,17 @@
 -- Assumes nothing.
 use mathlib.Core.Path.{_≡_, sym, ap, _∙_, subst₂, subst₃}
 use mathlib.Core.List.{List}
-use mathlib.Core.Bool.{true, false, not}
 use Prim.Native.Nat.{ℕ, _+_, _*_, _-_, _≤_, _<_}
 use native.Mathlib.Decide.{decLt}
 use native.Mathlib.Omega.{arith}
-use borrow.Author.Tests.{eq-eqb, ne-eqb}
 use Rattle.toeplitz.specs.Hash.{windowAt}
 use Rattle.toeplitz.specs.TwoWay.{inputSize, addressSize, portSize, tellsApart, agree, differAt, verdict}
 use Rattle.toeplitz.specs.Search.{SameBelow, FoundIn}
 use Rattle.toeplitz.specs.declared.search.Found.{Found}
 use Rattle.toeplitz.specs.declared.search.Found.the-variants.{At, Nothing}
 use Rattle.toeplitz.proofs.Mirror.{mirror1, mirror2, mirror3, mirror4}
-use Rattle.toeplitz.proofs.Lowest.{agree-exactly, differ-exactly}
-use Rattle.toeplitz.proofs.TwoWays.{mirrorWindow, tells-windows}
+use Rattle.toeplitz.proofs.Lowest.{differ-exactly}
+use Rattle.toeplitz.proofs.TwoWays.{mirrorWindow, SameWindow, test-same, test-other, same-agree}
 
 -- what the search in the two addresses says, of the address size x, and that in the two ports of size y behind them
 abbrev pub InAddresses : List ℕ → ℕ → Found → Type 0
@@ -30,15 +28,6 @@ module _ (key : List ℕ) (t : ℕ) where
   abbrev p : ℕ
   p = portSize t
 
-  abbrev Same : ℕ → Type 0
-  Same b = windowAt key b ≡ mirrorWindow key t b
-
-  test-same : (b : ℕ) → b < inputSize t * 8 → Same b → tellsApart key t b ≡ false
-  test-same b h e = tells-windows key t b h ∙ ap not (eq-eqb _ _ e)
-
-  test-other : (b : ℕ) → b < inputSize t * 8 → (Same b → ⊥) → tellsApart key t b ≡ true
-  test-other b h n = tells-windows key t b h ∙ ap not (ne-eqb _ _ n)
-
   -- the searched windows are those at a bit and at its mirror
   address : (k : ℕ) → k < a * 8 → (windowAt key (0 + k) ≡ windowAt key k) × (windowAt key ((0 + a) * 8 + k) ≡ mirrorWindow key t k)
   address k h = (ap (windowAt key) (omega arith), ap (windowAt key) (omega (arith, mirror1 (a * 8) (p * 8) k h)))
@@ -46,7 +35,7 @@ module _ (key : List ℕ) (t : ℕ) where
   port : (k : ℕ) → k < p * 8 → windowAt key ((a * 2 + p) * 8 + k) ≡ mirrorWindow key t (a * 2 * 8 + k)
   port k h = ap (windowAt key) (omega (arith, mirror3 (a * 8) (p * 8) (a * 2 * 8 + k) (omega arith) (omega arith)))
 
-  addresses-same : InAddresses key a Nothing → (b : ℕ) → b < a * 8 + a * 8 → Same b
+  addresses-same : InAddresses key a Nothing → (b : ℕ) → b < a * 8 + a * 8 → SameWindow key t b
   addresses-same s b h =
       elim (decLt b (a * 8)) [
         | yes l ↦ sym (address b l .0) ∙ s b l ∙ address b l .1
@@ -55,7 +44,7 @@ module _ (key : List ℕ) (t : ℕ) where
             ∙ ap (windowAt key) (omega (arith, mirror2 (a * 8) (p * 8) b (omega arith) h))
       ]
 
-  ports-same : InPorts key a p Nothing → (b : ℕ) → a * 8 + a * 8 ≤ b → b < inputSize t * 8 → Same b
+  ports-same : InPorts key a p Nothing → (b : ℕ) → a * 8 + a * 8 ≤ b → b < inputSize t * 8 → SameWindow key t b
   ports-same s b g h =
       elim (decLt b (a * 8 + a * 8 + p * 8)) [
         | yes l ↦
@@ -72,8 +61,8 @@ module _ (key : List ℕ) (t : ℕ) where
   in-addresses b f =
       differ-exactly (tellsApart key t) (inputSize t * 8) b .1 (
         omega arith,
-        test-other b (omega arith) (λ e. f .1 (address b (f .0) .0 ∙ e ∙ sym (address b (f .0) .1))),
-        λ k l. test-same k (omega arith) (sym (address k (omega arith) .0) ∙ f .2 k l ∙ address k (omega arith) .1),
+        test-other key t b (omega arith) (λ e. f .1 (address b (f .0) .0 ∙ e ∙ sym (address b (f .0) .1))),
+        λ k l. test-same key t k (omega arith) (sym (address k (omega arith) .0) ∙ f .2 k l ∙ address k (omega arith) .1),
       )
 
   -- a difference in the ports is the lowest where the addresses have none
@@ -84,25 +73,21 @@ module _ (key : List ℕ) (t : ℕ) where
       rw i
       (differ-exactly (tellsApart key t) (inputSize t * 8) (a * 2 * 8 + b) .1 (
         omega arith,
-        test-other (a * 2 * 8 + b) (omega arith) (λ e. f .1 (e ∙ sym (port b (f .0)))),
+        test-other key t (a * 2 * 8 + b) (omega arith) (λ e. f .1 (e ∙ sym (port b (f .0)))),
         λ k l. elim (decLt k (a * 8 + a * 8)) [
-          | yes m ↦ test-same k (omega arith) (addresses-same s k m)
+          | yes m ↦ test-same key t k (omega arith) (addresses-same s k m)
           | no n ↦
               let o : ℕ = k - a * 2 * 8 in
               let j : k ≡ a * 2 * 8 + o = omega arith in
-              rw j (test-same (a * 2 * 8 + o) (omega arith) (f .2 o (omega arith) ∙ port o (omega arith)))
+              rw j (test-same key t (a * 2 * 8 + o) (omega arith) (f .2 o (omega arith) ∙ port o (omega arith)))
         ],
       ))
 
   -- no difference in either: the directions agree
   pub nowhere : InAddresses key a Nothing → InPorts key a p Nothing → verdict key t ≡ agree
-  unfolding verdict
   nowhere s u =
-      agree-exactly (tellsApart key t) (inputSize t * 8) .1
-      (λ k l. elim (decLt k (a * 8 + a * 8)) [
-        | yes m ↦ test-same k l (addresses-same s k m)
-        | no n ↦ test-same k l (ports-same u k (omega arith) l)
-      ])
+      same-agree key t
+      (λ k l. elim (decLt k (a * 8 + a * 8)) [ yes m ↦ addresses-same s k m | no n ↦ ports-same u k (omega arith) l ])
 
   -- what a search says, of the sizes that the type has and the case that was found
   pub first-search : {x : ℕ} {r r′ : Found} → x ≡ a → r ≡ r′ → InAddresses key x r → InAddresses key a r′

@@ -4,14 +4,14 @@
 use mathlib.Core.Path.{_≡_, sym, ap, ap₂, _∙_}
 use mathlib.Core.List.{List}
 use mathlib.Core.Logic.{_↔_}
-use mathlib.Core.Bool.{not}
+use mathlib.Core.Bool.{true, false, not}
 use Prim.Native.Nat.{ℕ, _+_, _*_, _<_}
 use native.Mathlib.Omega.{arith}
 use lib.ListN.{length}
 use lib.Dec.{eqb}
-use borrow.Author.Tests.{eq-eqb, eqb-true, not-false}
+use borrow.Author.Tests.{eq-eqb, ne-eqb, eqb-true, not-false}
 use Rattle.toeplitz.specs.Hash.{bitAt, windowAt, whenSet, termAt, xorBelow, publishedHash}
-use Rattle.toeplitz.specs.TwoWay.{sizeOf, inputSize, IsInput, addressSize, portSize, swapped, reverseOf, oneBit}
+use Rattle.toeplitz.specs.TwoWay.{sizeOf, inputSize, IsInput, addressSize, portSize, swapped, MeetsReverse, oneBit}
 use Rattle.toeplitz.specs.TwoWay.{tellsApart, agree, lowest, verdict}
 use Rattle.toeplitz.proofs.Sums.{below-same}
 use Rattle.toeplitz.proofs.Mirror.{mirror, hash-swapped}
@@ -52,6 +52,21 @@ module _ (key : List ℕ) (t : ℕ) where
   tells-windows b h =
       ap₂ (λ (x y : ℕ). not (eqb x y)) (hash-one key (inputSize t) b h) (hash-one-swapped key (addressSize t) (portSize t) b h)
 
+  -- a bit's window is that at its mirror, or not
+  abbrev pub SameWindow : ℕ → Type 0
+  SameWindow b = windowAt key b ≡ mirrorWindow b
+
+  pub test-same : (b : ℕ) → b < inputSize t * 8 → SameWindow b → tellsApart key t b ≡ false
+  test-same b h e = tells-windows b h ∙ ap not (eq-eqb _ _ e)
+
+  pub test-other : (b : ℕ) → b < inputSize t * 8 → (SameWindow b → ⊥) → tellsApart key t b ≡ true
+  test-other b h n = tells-windows b h ∙ ap not (ne-eqb _ _ n)
+
+  -- where all are the same, the directions agree
+  pub same-agree : ((b : ℕ) → b < inputSize t * 8 → SameWindow b) → verdict key t ≡ agree
+  unfolding verdict
+  same-agree s = agree-exactly (tellsApart key t) (inputSize t * 8) .1 (λ b h. test-same b h (s b h))
+
   -- the answer by windows alone, with no hash computed
   pub verdict-windows : verdict key t ≡ lowest (λ b. not (eqb (windowAt key b) (mirrorWindow b))) (inputSize t * 8)
   unfolding verdict
@@ -59,7 +74,7 @@ module _ (key : List ℕ) (t : ℕ) where
 
   -- the verdict is `agree` exactly where every input of the type has the hash of its reverse
   pub verdict-agree : (verdict key t ≡ agree)
-      ↔ ((xs : List ℕ) → IsInput t xs → publishedHash key xs ≡ publishedHash key (reverseOf t xs))
+      ↔ ((xs : List ℕ) → IsInput t xs → MeetsReverse key t xs)
   unfolding verdict tellsApart
   verdict-agree = (
     λ e xs q. windows-agree key (addressSize t) (portSize t)

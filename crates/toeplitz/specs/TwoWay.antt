@@ -52,10 +52,17 @@ reverseOf t xs = swapped (addressSize t) (portSize t) xs
 unfoldable pub oneBit : ℕ → ℕ → List ℕ
 oneBit n b = set (replicate n 0) (b / 8) (2 ^ (7 - b % 8))
 
+-- the input of type t with bit b alone set
+abbrev pub singleBit : ℕ → ℕ → List ℕ
+singleBit t b = oneBit (inputSize t) b
+
+-- an input and its reverse have equal published hashes
+abbrev pub MeetsReverse : List ℕ → ℕ → List ℕ → Type 0
+MeetsReverse key t xs = publishedHash key xs ≡ publishedHash key (reverseOf t xs)
+
 -- the input of type t with bit b alone set has another published hash than its reverse
 unfoldable pub tellsApart : List ℕ → ℕ → ℕ → Bool
-tellsApart key t b =
-    not (eqb (publishedHash key (oneBit (inputSize t) b)) (publishedHash key (reverseOf t (oneBit (inputSize t) b))))
+tellsApart key t b = not (eqb (publishedHash key (singleBit t b)) (publishedHash key (reverseOf t (singleBit t b))))
 
 -- document 01's two-way answer: `agree` is its yes, `differAt b` its no with the bit position b
 pub data Verdict : Type 0 where
@@ -89,3 +96,7 @@ twoWayOutcomeOf Yes = value agree
 twoWayOutcomeOf (No b) = value (differAt b)
 twoWayOutcomeOf KeyLength = refused keyLengthWrong
 twoWayOutcomeOf HashType = refused typeUnknown
+
+-- a key that repeats every two octets
+abbrev pub RepeatsEveryTwo : List ℕ → Type 0
+RepeatsEveryTwo key = (i : ℕ) → i + 2 < keyLength → getD key (i + 2) 0 ≡ getD key i 0
