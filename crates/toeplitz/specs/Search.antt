@@ -4,8 +4,8 @@ use mathlib.Core.Path.{_≡_}
 use mathlib.Core.List.{List}
 use Prim.Native.Nat.{ℕ, _+_, _<_}
 use Rattle.toeplitz.specs.Hash.{windowAt}
-use Rattle.toeplitz.specs.declared.search.Found.{Found}
-use Rattle.toeplitz.specs.declared.search.Found.the-variants.{At, Nothing}
+use Rattle.toeplitz.specs.declared.directions.Found.{Found}
+use Rattle.toeplitz.specs.declared.directions.Found.the-variants.{At, Nothing}
 
 -- the windows at i + k and at m + k are equal at each k below n
 abbrev pub SameBelow : List ℕ → ℕ → ℕ → ℕ → Type 0

@@ -1,4 +1,4 @@
--- `toeplitz::two_way` meets its contract: the tests and the two searches pick the case of `twoWayOutcome`.
+-- `toeplitz::directions::two_way` meets its contract: the tests and the two searches pick the case of `twoWayOutcome`.
 -- Assumes nothing.
 use mathlib.Core.Path.{_≡_, sym, ap, _∙_}
 use mathlib.Core.List.{List}
@@ -8,10 +8,10 @@ use borrow.Author.Needs.{needs}
 use borrow.Author.Tests.{eq-eqb, ne-eqb, le-leb, lt-leb}
 use Rattle.toeplitz.specs.Outcome.{value}
 use Rattle.toeplitz.specs.TwoWay.{addressSize, portSize, Verdict, differAt, verdict, twoWayOutcome}
-use Rattle.toeplitz.specs.declared.search.Found.{Found}
+use Rattle.toeplitz.specs.declared.directions.Found.{Found}
 use Rattle.toeplitz.proofs.Searches.{InAddresses, InPorts, first-search, second-search, in-addresses, in-ports, nowhere}
-use Rattle.toeplitz.proofs.two_way.Statement.{statement}
-use Rattle.toeplitz.proofs.two_way.Tie as tie
+use Rattle.toeplitz.proofs.directions.two_way.Statement.{statement}
+use Rattle.toeplitz.proofs.directions.two_way.Tie as tie
 
 -- after the search in the addresses: the key and the type are good, and what was found
 module _ (d : tie.After-first-difference) where

@@ -1,11 +1,11 @@
--- `toeplitz::search::port_size` meets its contract, by the cases of the definition: the odd types have ports.
+-- `toeplitz::directions::port_size` meets its contract, by the cases of the definition: the odd types have ports.
 -- Assumes nothing.
 use mathlib.Core.Path.{_≡_, refl}
 use Prim.Native.Nat.{ℕ, zero, suc, _%_, _*_, _≤_}
 use native.Mathlib.Omega.{arith}
 use Rattle.toeplitz.specs.TwoWay.{portSize}
-use Rattle.toeplitz.proofs.search.port_size.Statement.{statement}
-use Rattle.toeplitz.proofs.search.port_size.Tie as tie
+use Rattle.toeplitz.proofs.directions.port_size.Statement.{statement}
+use Rattle.toeplitz.proofs.directions.port_size.Tie as tie
 
 by-parity : (t : ℕ) → t ≤ 3 → portSize t ≡ t % 2 * 2
 by-parity zero h = refl

@@ -1,11 +1,11 @@
--- `toeplitz::search::address_size` meets its contract, by the cases of the definition.
+-- `toeplitz::directions::address_size` meets its contract, by the cases of the definition.
 -- Assumes nothing.
 use mathlib.Core.Path.{_≡_, refl}
 use Prim.Native.Nat.{ℕ, zero, suc, _≤_, _<_}
 use native.Mathlib.Omega.{arith}
 use Rattle.toeplitz.specs.TwoWay.{addressSize}
-use Rattle.toeplitz.proofs.search.address_size.Statement.{statement}
-use Rattle.toeplitz.proofs.search.address_size.Tie as tie
+use Rattle.toeplitz.proofs.directions.address_size.Statement.{statement}
+use Rattle.toeplitz.proofs.directions.address_size.Tie as tie
 
 small : (t : ℕ) → t < 2 → 4 ≡ addressSize t
 small zero h = refl

@@ -1,4 +1,4 @@
--- `toeplitz::sum::hash_of` meets its contract. The loop's invariant: the input bits of the octets below `at` are done.
+-- `toeplitz::hashing::hash_of` meets its contract. The loop's invariant: the input bits of the octets below `at` are done.
 -- Assumes nothing.
 use mathlib.Core.Path.{_≡_, refl}
 use Prim.Native.Nat.{_≤_, _+_, _*_, _-_}
@@ -6,8 +6,8 @@ use native.Mathlib.Omega.{arith}
 use borrow.Author.Needs.{needs}
 use lib.ListN.{length}
 use Rattle.toeplitz.specs.Hash.{xorBelow, publishedHash, Reached}
-use Rattle.toeplitz.proofs.sum.hash_of.Statement.{statement}
-use Rattle.toeplitz.proofs.sum.hash_of.Tie as tie
+use Rattle.toeplitz.proofs.hashing.hash_of.Statement.{statement}
+use Rattle.toeplitz.proofs.hashing.hash_of.Tie as tie
 
 abbrev Inv-loop : tie.InvT-loop
 Inv-loop key input window₀ sum₀ at₀ window sum at = (at ≤ length input) × Reached key input (at * 8) window sum

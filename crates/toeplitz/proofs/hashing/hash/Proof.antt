@@ -1,11 +1,11 @@
--- `toeplitz::hash` meets its contract: the tests on the way to each return pick the case of `hashOutcome`.
+-- `toeplitz::hashing::hash` meets its contract: the tests on the way to each return pick the case of `hashOutcome`.
 -- Assumes nothing.
 use mathlib.Core.Path.{ap}
 use borrow.Author.Needs.{needs}
 use borrow.Author.Tests.{eq-eqb, ne-eqb, le-leb, lt-leb}
 use Rattle.toeplitz.specs.Outcome.{value}
-use Rattle.toeplitz.proofs.hash.Statement.{statement}
-use Rattle.toeplitz.proofs.hash.Tie as tie
+use Rattle.toeplitz.proofs.hashing.hash.Statement.{statement}
+use Rattle.toeplitz.proofs.hashing.hash.Tie as tie
 
 returns : tie.Need-returns
 returns c = simp (ne-eqb _ _ (c .if1 .taken))

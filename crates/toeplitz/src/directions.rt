@@ -1,26 +1,54 @@
-// The search behind the two-way question: where the windows of two parts of an input first differ.
+// The two-way question: the windows of the two addresses are compared, then those of the two ports. An
+// input's bit and its place in the reverse count alike exactly where their windows are equal.
 ghost use mathlib.Core.Path.{_≡_};
 ghost use Prim.Native.Nat.{_+_, _*_, _≤_};
 ghost use lib.ListN.{length};
 ghost use Rattle.toeplitz.specs.Hash.{keyLength, maxInput};
-ghost use Rattle.toeplitz.specs.TwoWay.{lastType, addressSize, portSize};
+ghost use Rattle.toeplitz.specs.TwoWay.{lastType, addressSize, portSize, twoWayOutcome, twoWayOutcomeOf};
 ghost use Rattle.toeplitz.specs.Search.{FoundIn};
+use crate::KEY_LENGTH;
+use crate::LAST_TYPE;
+use crate::TwoWayAnswer;
 use crate::window::next_window;
 use crate::window::octet_window;
 
-pub enum Found {
+// Where two runs of windows first differ.
+enum Found {
     At(usize),
     Nothing,
 }
 
+// Whether the two directions of every conversation have one hash under the key.
+pub fn two_way(key: &[u8], hash_type: u32) -> TwoWayAnswer
+    ensures { λ r. ⌜ twoWayOutcomeOf r ≡ twoWayOutcome (now (key .entry)) «hash_type» ⌝ }
+{
+    if key.len() != KEY_LENGTH {
+        return TwoWayAnswer::KeyLength;
+    }
+    if hash_type > LAST_TYPE {
+        return TwoWayAnswer::HashType;
+    }
+    let address = address_size(hash_type);
+    let port = port_size(hash_type);
+    let in_addresses = first_difference(key, 0, address);
+    if let Found::At(b) = in_addresses {
+        return TwoWayAnswer::No(b);
+    }
+    let in_ports = first_difference(key, address * 2, port);
+    if let Found::At(b) = in_ports {
+        return TwoWayAnswer::No(address * 16 + b);
+    }
+    TwoWayAnswer::Yes
+}
+
 // Octets of an address, and of a port, in an input of a type.
-pub fn address_size(hash_type: u32) -> usize
+fn address_size(hash_type: u32) -> usize
     ensures { λ r. ⌜ (r ≡ addressSize «hash_type») × (r ≤ 16) ⌝ }
 {
     if hash_type < 2 { 4 } else { 16 }
 }
 
-pub fn port_size(hash_type: u32) -> usize
+fn port_size(hash_type: u32) -> usize
     requires { ⌜ «hash_type» ≤ lastType ⌝ }
     ensures { λ r. ⌜ (r ≡ portSize «hash_type») × (r ≤ 2) ⌝ }
 {
@@ -29,7 +57,7 @@ pub fn port_size(hash_type: u32) -> usize
 
 // Compares the windows at the bits of the `size` octets from octet `at` on with those at the next `size`
 // octets, and tells the first bit of the part at which they differ.
-pub fn first_difference(key: &[u8], at: usize, size: usize) -> Found
+fn first_difference(key: &[u8], at: usize, size: usize) -> Found
     requires { ⌜ (length (now key) ≡ keyLength) × (at + (size + size) ≤ maxInput) ⌝ }
     ensures { λ r. ⌜ FoundIn (now (key .entry)) (at * 8) ((at + size) * 8) (size * 8) r ⌝ }
 {

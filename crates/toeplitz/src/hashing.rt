@@ -1,12 +1,28 @@
-// The hash proper: the XOR of the windows at the set input bits, an octet of the input at a time.
+// The hash: the XOR of the windows at the set input bits, an octet of the input at a time.
 ghost use mathlib.Core.Path.{_≡_};
 ghost use Prim.Native.Nat.{_+_, _*_, _<_, _≤_};
 ghost use lib.ListN.{length};
 ghost use lib.Bits.{bitXor};
-ghost use Rattle.toeplitz.specs.Hash.{keyLength, maxInput, whenSet, publishedHash, Reached};
+ghost use Rattle.toeplitz.specs.Hash.{keyLength, maxInput, whenSet, publishedHash, hashOutcome, hashOutcomeOf, Reached};
+use crate::HashAnswer;
+use crate::KEY_LENGTH;
+use crate::MAX_INPUT;
 use crate::window::bit_at;
 use crate::window::next_window;
 use crate::window::octet_window;
+
+// The published hash of the input under the key.
+pub fn hash(key: &[u8], input: &[u8]) -> HashAnswer
+    ensures { λ r. ⌜ hashOutcomeOf r ≡ hashOutcome (now (key .entry)) (now (input .entry)) ⌝ }
+{
+    if key.len() != KEY_LENGTH {
+        return HashAnswer::KeyLength;
+    }
+    if input.len() > MAX_INPUT {
+        return HashAnswer::InputLength;
+    }
+    HashAnswer::Hash(hash_of(key, input))
+}
 
 // The window at the next input bit, and the XOR so far.
 struct Partial {
@@ -14,7 +30,7 @@ struct Partial {
     sum: u32,
 }
 
-pub fn hash_of(key: &[u8], input: &[u8]) -> u32
+fn hash_of(key: &[u8], input: &[u8]) -> u32
     requires { ⌜ (length (now key) ≡ keyLength) × (length (now input) ≤ maxInput) ⌝ }
     ensures { λ r. ⌜ r ≡ publishedHash (now (key .entry)) (now (input .entry)) ⌝ }
 {

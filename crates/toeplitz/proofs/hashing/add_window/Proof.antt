@@ -1,11 +1,11 @@
--- `toeplitz::sum::add_window` meets its contract.
+-- `toeplitz::hashing::add_window` meets its contract.
 -- Assumes nothing.
 use mathlib.Core.Path.{_≡_, refl, sym}
 use Prim.Native.Nat.{ℕ, zero, suc}
 use lib.Bits.{bitXor, xor-zero-r}
 use Rattle.toeplitz.specs.Hash.{whenSet}
-use Rattle.toeplitz.proofs.sum.add_window.Statement.{statement}
-use Rattle.toeplitz.proofs.sum.add_window.Tie as tie
+use Rattle.toeplitz.proofs.hashing.add_window.Statement.{statement}
+use Rattle.toeplitz.proofs.hashing.add_window.Tie as tie
 
 when-clear : (s b w : ℕ) → b ≡ 0 → s ≡ bitXor s (whenSet b w)
 unfolding whenSet

@@ -1,4 +1,4 @@
--- `toeplitz::sum::add_octet` meets its contract. The loop's invariant: the bits of the octet below j are done.
+-- `toeplitz::hashing::add_octet` meets its contract. The loop's invariant: the bits of the octet below j are done.
 -- Assumes nothing.
 use mathlib.Core.Path.{_≡_}
 use Prim.Native.Nat.{_≤_, _+_, _*_, _-_}
@@ -7,8 +7,8 @@ use native.Mathlib.Omega.{arith}
 use borrow.Author.Needs.{needs}
 use Rattle.toeplitz.specs.Hash.{Reached}
 use Rattle.toeplitz.proofs.Windows.{reached-next}
-use Rattle.toeplitz.proofs.sum.add_octet.Statement.{statement}
-use Rattle.toeplitz.proofs.sum.add_octet.Tie as tie
+use Rattle.toeplitz.proofs.hashing.add_octet.Statement.{statement}
+use Rattle.toeplitz.proofs.hashing.add_octet.Tie as tie
 
 abbrev Inv-loop : tie.InvT-loop
 Inv-loop key input at window₀ sum₀ j₀ window sum j = (j ≤ 8) × Reached key input (at * 8 + j) window sum

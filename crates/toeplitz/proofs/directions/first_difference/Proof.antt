@@ -1,4 +1,4 @@
--- `toeplitz::search::first_difference` meets its contract. The loop's invariant: the two windows, and that all below j are equal.
+-- `toeplitz::directions::first_difference` meets its contract. The loop's invariant: the two windows, and that all below j are equal.
 -- Assumes nothing.
 use mathlib.Core.Path.{_≡_, sym, _∙_}
 use Prim.Native.Nat.{_≤_, _+_, _*_, _-_}
@@ -8,8 +8,8 @@ use borrow.Author.Needs.{needs}
 use borrow.Author.Count.{below-more}
 use Rattle.toeplitz.specs.Hash.{windowAt}
 use Rattle.toeplitz.specs.Search.{SameBelow}
-use Rattle.toeplitz.proofs.search.first_difference.Statement.{statement}
-use Rattle.toeplitz.proofs.search.first_difference.Tie as tie
+use Rattle.toeplitz.proofs.directions.first_difference.Statement.{statement}
+use Rattle.toeplitz.proofs.directions.first_difference.Tie as tie
 
 abbrev Inv-loop : tie.InvT-loop
 Inv-loop key at size left₀ right₀ j₀ left right j =
