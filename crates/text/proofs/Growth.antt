@@ -1,0 +1,35 @@
+-- Texts that grow: nothing added, one octet added, and one growth after another.
+-- Assumes nothing.
+use mathlib.Core.Path.{_≡_, refl, sym, ap, _∙_}
+use mathlib.Core.List.{List, [], _∷_, _++_, append-assoc, append-nil}
+use Prim.Native.Nat.{ℕ, zero, suc, _+_, _<_, _≤_}
+use native.Mathlib.Numerals.{add-one}
+use native.Mathlib.Omega.{arith}
+use lib.ListN.{length, getD, take, set, length-append}
+use lib.Seq.{take-suc-set, take-suc}
+use Rattle.text.specs.Text.{textOf, Adds, Prints, capacity}
+use Rattle.text.specs.declared.Text.{Text}
+
+pub adds-none : (t : Text) → Adds t [] t
+adds-none t = record { longer = omega arith; text = sym (append-nil (textOf t)) }
+
+pub adds-then : {t r s : Text} {xs ys : List ℕ} → Adds t xs r → Adds r ys s → Adds t (xs ++ ys) s
+adds-then {t} {r} {s} {xs} {ys} a b =
+    record {
+      longer = omega (arith, a .longer, b .longer, length-append xs ys);
+      text = b .text ∙ ap (λ (l : List ℕ). l ++ ys) (a .text) ∙ append-assoc (textOf t) xs ys;
+    }
+
+-- growth from an empty text
+pub prints : {t r : Text} {xs : List ℕ} → t .length ≡ 0 → Adds t xs r → r .length ≤ capacity → Prints r xs
+prints {t} {r} {xs} e a f = record { fits = f; text = a .text ∙ ap (λ (n : ℕ). take n (t .octets) ++ xs) e }
+
+-- a store at the end
+pub adds-octet : (t : Text) (b : ℕ) → t .length < length (t .octets)
+    → Adds t (b ∷ []) (record { octets = set (t .octets) (t .length) b; length = t .length + 1 })
+adds-octet t b h = record { longer = refl; text = rw add-one (take-suc-set (t .octets) (t .length) b h) }
+
+-- the next octet of a list of which i were added
+pub adds-next : {t r s : Text} (xs : List ℕ) (i : ℕ) → i < length xs → Adds t (take i xs) r → Adds r (getD xs i 0 ∷ []) s
+    → Adds t (take (i + 1) xs) s
+adds-next xs i h a b = rw (add-one, take-suc xs i 0) (adds-then a b)

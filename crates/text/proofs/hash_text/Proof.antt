@@ -1,0 +1,50 @@
+-- `text::hash_text` meets its contract: where fewer than 40 octets were read, all are the key and none the input.
+-- Assumes nothing.
+use mathlib.Core.Path.{_≡_, refl, sym, ap, ap₂, _∙_}
+use mathlib.Core.List.{List}
+use Prim.Native.Nat.{ℕ, _-_, _≤_, min}
+use native.Mathlib.Decide.{decLt}
+use native.Mathlib.Omega.{arith}
+use borrow.Author.Needs.{needs}
+use lib.ListN.{length, take, drop, length-drop, drop-of-length-le}
+use lib.Seq.{length-take-le, take-all}
+use Rattle.toeplitz.specs.Hash.{keyLength, hashOutcome}
+use Rattle.text.proofs.hash_text.Statement.{statement}
+use Rattle.text.proofs.hash_text.Tie as tie
+
+module _ (octets : List ℕ) (split : ℕ) (e : split ≡ min keyLength (length octets)) where
+  key-part : take split octets ≡ take keyLength octets
+  key-part =
+      elim (decLt (length octets) keyLength) [
+        | yes h ↦ take-all split octets (omega arith) ∙ sym (take-all keyLength octets (omega arith))
+        | no n ↦ let whole : split ≡ keyLength = omega arith in ap (λ (k : ℕ). take k octets) whole
+      ]
+
+  input-part : take (length octets - split) (drop split octets) ≡ drop keyLength octets
+  input-part =
+      take-all (length octets - split) (drop split octets) (omega (arith, length-drop split octets))
+      ∙ elim (decLt (length octets) keyLength) [
+        | yes h ↦ drop-of-length-le octets {i = split} (omega arith) ∙ sym (drop-of-length-le octets {i = keyLength} (omega arith))
+        | no n ↦ let whole : split ≡ keyLength = omega arith in ap (λ (k : ℕ). drop k octets) whole
+      ]
+
+returns : tie.Need-returns
+returns c =
+    let d = c .before .before .before .before in
+    let octets = d .before .before .args .octets .now in
+    let split = d .key-end .result in
+    let parts = ap₂ hashOutcome (key-part octets split (d .key-end .ensures .0)) (input-part octets split (d .key-end .ensures .0)) in
+    rw (c .before .hash .ensures ∙ parts) at (c .hash-line .ensures)
+
+pub hash-text-spec : {M : Type 1} → statement M
+hash-text-spec =
+    tie.close
+    (tie.spec
+    (λ c κs. search needs)
+    (λ c. sym (length-take-le _ _ (search needs)))
+    (λ c. search needs)
+    (λ c. search needs)
+    (λ c. search needs)
+    (λ c κs. search needs)
+    (λ c κs. search needs)
+    returns)

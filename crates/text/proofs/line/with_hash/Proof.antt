@@ -1,0 +1,36 @@
+-- `text::line::with_hash` meets its contract: each arm adds the line of its case.
+-- Assumes nothing.
+use native.Mathlib.Omega.{arith}
+use borrow.Author.Needs.{needs}
+use Rattle.text.proofs.Growth.{adds-then}
+use Rattle.text.proofs.line.with_hash.Statement.{statement}
+use Rattle.text.proofs.line.with_hash.Tie as tie
+
+returns : tie.Need-returns
+returns c =
+    let digits = c .before .before .with-hex .ensures in
+    let end = c .with-octets .ensures in
+    rw (c .before .before .before .before .answer .given .1)
+    (adds-then (digits .0) end, omega (arith, digits .1, end .longer))
+
+returns-2 : tie.Need-returns-2
+returns-2 c = rw (c .before .enum-told .given .1) (c .with-refusal .ensures)
+
+returns-3 : tie.Need-returns-3
+returns-3 c = rw (c .before .enum-told2 .given .1) (c .with-refusal2 .ensures)
+
+pub with-hash-spec : {M : Type 1} → statement M
+with-hash-spec =
+    tie.close
+    (tie.spec
+    (λ c. search needs)
+    (λ c κs. search needs)
+    (λ c. search needs)
+    (λ c κs. search needs)
+    (λ c. search needs)
+    (λ c κs. search needs)
+    (λ c. search needs)
+    (λ c κs. search needs)
+    returns
+    returns-2
+    returns-3)

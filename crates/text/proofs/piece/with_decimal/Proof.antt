@@ -1,0 +1,33 @@
+-- `text::piece::with_decimal` meets its contract: `io::decimal` writes the fewest digits, and 20 hold any 64-bit number.
+-- Assumes nothing.
+use mathlib.Core.Path.{_≡_, ap, _∙_}
+use Prim.Native.Nat.{ℕ, _≤_}
+use native.Mathlib.Omega.{arith}
+use borrow.Author.Needs.{needs}
+use Rattle.io.specs.Digits.{digits}
+use Rattle.text.specs.Ascii.{decimal}
+use Rattle.text.proofs.Places.{fewest-decimal, fewest-most}
+use Rattle.text.proofs.piece.with_decimal.Statement.{statement}
+use Rattle.text.proofs.piece.with_decimal.Tie as tie
+
+module _ (d : tie.After-decimal) where
+  abbrev n : ℕ
+  n = d .before .before .args .n
+
+  few : d .decimal .result ≤ 20
+  few = fewest-most 10 1 n (d .decimal .result) 20 (omega arith) (omega arith) (search needs) (d .decimal .ensures .1 .0)
+
+with-octets-requires : tie.Need-with-octets-requires
+with-octets-requires c κs = omega (arith, few (c .before), c .before .decimal .ensures .0 .1)
+
+returns : tie.Need-returns
+unfolding decimal
+returns c =
+    let d = c .before .before in
+    let made = d .decimal in
+    let text = made .ensures .1 .1 ∙ ap (λ (k : ℕ). digits 10 k (n d)) (fewest-decimal (n d) (made .result) (made .ensures .1 .0)) in
+    (rw text at (c .with-octets .ensures), omega (arith, c .with-octets .ensures .longer, few d, made .ensures .0 .1))
+
+pub with-decimal-spec : {M : Type 1} → statement M
+with-decimal-spec =
+    tie.close (tie.spec (λ c κs. search needs) (λ c. search needs) (λ c. search needs) with-octets-requires returns)

@@ -1,0 +1,37 @@
+-- `text::piece::with_hex` meets its contract: `io::hex` writes eight digits, which hold any 32-bit number.
+-- Assumes nothing.
+use mathlib.Core.Path.{_≡_, ap, _∙_}
+use Prim.Native.Nat.{ℕ, _≤_}
+use native.Mathlib.Omega.{arith}
+use borrow.Author.Needs.{needs}
+use Rattle.io.specs.Digits.{digits}
+use Rattle.text.specs.Ascii.{hex8}
+use Rattle.text.proofs.Places.{fewest-most}
+use Rattle.text.proofs.piece.with_hex.Statement.{statement}
+use Rattle.text.proofs.piece.with_hex.Tie as tie
+
+module _ (d : tie.After-hex) where
+  abbrev n : ℕ
+  n = d .before .before .args .n
+
+  eight : d .hex .result ≡ 8
+  eight =
+      omega (
+        arith,
+        d .hex .ensures .1 .0 .0,
+        fewest-most 16 8 n (d .hex .result) 8 (omega arith) (omega arith) (search needs) (d .hex .ensures .1 .0),
+      )
+
+with-octets-requires : tie.Need-with-octets-requires
+with-octets-requires c κs = omega (arith, eight (c .before), c .before .hex .ensures .0 .1)
+
+returns : tie.Need-returns
+unfolding hex8
+returns c =
+    let d = c .before .before in
+    let made = d .hex in
+    let text = made .ensures .1 .1 ∙ ap (λ (k : ℕ). digits 16 k (n d)) (eight d) in
+    (rw text at (c .with-octets .ensures), omega (arith, c .with-octets .ensures .longer, eight d, made .ensures .0 .1))
+
+pub with-hex-spec : {M : Type 1} → statement M
+with-hex-spec = tie.close (tie.spec (λ c κs. search needs) (λ c. search needs) (λ c. search needs) with-octets-requires returns)

@@ -1,0 +1,12 @@
+-- `text::piece::with_octet` meets its contract: a store at the end, and one octet more counted.
+-- Assumes nothing.
+use borrow.Author.Needs.{needs}
+use Rattle.text.proofs.Growth.{adds-octet}
+use Rattle.text.proofs.piece.with_octet.Statement.{statement}
+use Rattle.text.proofs.piece.with_octet.Tie as tie
+
+returns : tie.Need-returns
+returns c = adds-octet (c .args .t1) (c .args .b) (search needs)
+
+pub with-octet-spec : {M : Type 1} → statement M
+with-octet-spec = tie.close (tie.spec (λ c. search needs) (λ c. search needs) returns)

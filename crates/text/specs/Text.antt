@@ -1,0 +1,25 @@
+-- A text that grows: what it holds, and what it is to add to it.
+-- Assumes nothing.
+use mathlib.Core.Path.{_≡_}
+use mathlib.Core.List.{List, _++_}
+use Prim.Native.Nat.{ℕ, _+_, _≤_}
+use lib.ListN.{length, take}
+use Rattle.text.specs.declared.Text.{Text}
+
+-- the most octets that a text holds
+abbrev pub capacity : ℕ
+capacity = 160
+
+-- the octets of a text
+abbrev pub textOf : Text → List ℕ
+textOf t = take (t .length) (t .octets)
+
+-- r is t with xs behind it
+pub record Adds (t : Text) (xs : List ℕ) (r : Text) : Type 0 where
+  pub longer : r .length ≡ t .length + length xs
+  pub text : textOf r ≡ textOf t ++ xs
+
+-- a text that holds xs, and no more than it can
+pub record Prints (r : Text) (xs : List ℕ) : Type 0 where
+  pub fits : r .length ≤ capacity
+  pub text : textOf r ≡ xs

@@ -1,0 +1,82 @@
+// Answers as the lines that the programs print. A text is built by value, so a function's promise is one
+// equation: the text that it returns is the one that it took with certain octets behind it.
+ghost use mathlib.Core.Path.{_≡_};
+ghost use Prim.Native.Nat.{_≤_, min};
+ghost use Rattle.toeplitz.specs.Hash.{keyLength, hashOutcomeOf};
+ghost use Rattle.toeplitz.specs.TwoWay.{twoWayOutcomeOf};
+ghost use Rattle.text.specs.Text.{Prints};
+ghost use Rattle.text.specs.Lines.{hashLine, verdictLine, hashText, twoWayText};
+
+mod line;
+mod piece;
+
+use line::with_hash;
+use line::with_refusal;
+use line::with_type;
+use line::with_verdict;
+use toeplitz::HashAnswer;
+use toeplitz::KEY_LENGTH;
+use toeplitz::TwoWayAnswer;
+
+// The octets of a text are the first `length` ones.
+pub struct Text {
+    pub octets: [u8; 160],
+    pub length: usize,
+}
+
+// The numbers of refusals.
+pub const INPUT_TOO_LONG: u64 = 7;
+
+pub const KEY_LENGTH_WRONG: u64 = 8;
+
+pub const TYPE_UNKNOWN: u64 = 9;
+
+// What the hash program prints for the octets that it read: 40 key octets, then the input.
+pub fn hash_text(octets: &[u8]) -> Text
+    ensures { λ r. ⌜ Prints r (hashText (now (octets .entry))) ⌝ }
+{
+    let split = key_end(octets.len());
+    hash_line(toeplitz::hash(&octets[..split], &octets[split..]))
+}
+
+// What the two-way program prints for the key that it read: a line for each hash type.
+pub fn two_way_text(key: &[u8]) -> Text
+    ensures { λ r. ⌜ Prints r (twoWayText (now (key .entry))) ⌝ }
+{
+    if key.len() != KEY_LENGTH {
+        return with_refusal(empty(), KEY_LENGTH_WRONG);
+    }
+    let ipv4 = with_type(empty(), b"ipv4 ", toeplitz::two_way(key, 0));
+    let ipv4_tcp = with_type(ipv4, b"ipv4_tcp ", toeplitz::two_way(key, 1));
+    let ipv6 = with_type(ipv4_tcp, b"ipv6 ", toeplitz::two_way(key, 2));
+    with_type(ipv6, b"ipv6_tcp ", toeplitz::two_way(key, 3))
+}
+
+// The line of one answer.
+pub fn hash_line(answer: HashAnswer) -> Text
+    ensures { λ r. ⌜ Prints r (hashLine (hashOutcomeOf answer)) ⌝ }
+{
+    with_hash(empty(), answer)
+}
+
+pub fn verdict_line(answer: TwoWayAnswer) -> Text
+    ensures { λ r. ⌜ Prints r (verdictLine (twoWayOutcomeOf answer)) ⌝ }
+{
+    with_verdict(empty(), answer)
+}
+
+fn empty() -> Text
+    ensures { λ r. ⌜ r .length ≡ 0 ⌝ }
+{
+    Text {
+        octets: [0u8; 160],
+        length: 0,
+    }
+}
+
+// Where the key ends among `n` octets.
+fn key_end(n: usize) -> usize
+    ensures { λ r. ⌜ (r ≡ min keyLength n) × (r ≤ n) ⌝ }
+{
+    if n < KEY_LENGTH { n } else { KEY_LENGTH }
+}

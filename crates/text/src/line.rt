@@ -1,0 +1,69 @@
+// One line behind a text, of at most 29 octets, or 38 with the name of a hash type.
+ghost use mathlib.Core.Path.{_≡_};
+ghost use mathlib.Core.List.{_++_};
+ghost use Prim.Native.Nat.{_+_, _≤_};
+ghost use lib.ListN.{length};
+ghost use Rattle.toeplitz.specs.Hash.{hashOutcomeOf};
+ghost use Rattle.toeplitz.specs.TwoWay.{twoWayOutcomeOf};
+ghost use Rattle.text.specs.Text.{capacity, Adds};
+ghost use Rattle.text.specs.Lines.{numberLine, refusalLine, hashLine, verdictLine};
+use crate::INPUT_TOO_LONG;
+use crate::KEY_LENGTH_WRONG;
+use crate::TYPE_UNKNOWN;
+use crate::Text;
+use crate::piece::with_decimal;
+use crate::piece::with_hex;
+use crate::piece::with_octets;
+use toeplitz::HashAnswer;
+use toeplitz::TwoWayAnswer;
+
+pub fn with_hash(t: Text, answer: HashAnswer) -> Text
+    requires { ⌜ t .length + 29 ≤ capacity ⌝ }
+    ensures { λ r. ⌜ Adds t (hashLine (hashOutcomeOf answer)) r ⌝ }
+    ensures { λ r. ⌜ r .length ≤ t .length + 29 ⌝ }
+{
+    match answer {
+        HashAnswer::Hash(h) => with_octets(with_hex(t, h), b"\n"),
+        HashAnswer::KeyLength => with_refusal(t, KEY_LENGTH_WRONG),
+        HashAnswer::InputLength => with_refusal(t, INPUT_TOO_LONG),
+    }
+}
+
+// The name of a hash type, then the answer for it.
+pub fn with_type(t: Text, name: &[u8], answer: TwoWayAnswer) -> Text
+    requires { ⌜ (length (now name) ≤ 9) × (t .length + 38 ≤ capacity) ⌝ }
+    ensures { λ r. ⌜ Adds t (now (name .entry) ++ verdictLine (twoWayOutcomeOf answer)) r ⌝ }
+    ensures { λ r. ⌜ r .length ≤ t .length + 38 ⌝ }
+{
+    with_verdict(with_octets(t, name), answer)
+}
+
+pub fn with_verdict(t: Text, answer: TwoWayAnswer) -> Text
+    requires { ⌜ t .length + 29 ≤ capacity ⌝ }
+    ensures { λ r. ⌜ Adds t (verdictLine (twoWayOutcomeOf answer)) r ⌝ }
+    ensures { λ r. ⌜ r .length ≤ t .length + 29 ⌝ }
+{
+    match answer {
+        TwoWayAnswer::Yes => with_octets(t, b"yes\n"),
+        TwoWayAnswer::No(b) => with_number(t, b"no ", b as u64),
+        TwoWayAnswer::KeyLength => with_refusal(t, KEY_LENGTH_WRONG),
+        TwoWayAnswer::HashType => with_refusal(t, TYPE_UNKNOWN),
+    }
+}
+
+pub fn with_refusal(t: Text, number: u64) -> Text
+    requires { ⌜ t .length + 29 ≤ capacity ⌝ }
+    ensures { λ r. ⌜ Adds t (refusalLine number) r ⌝ }
+    ensures { λ r. ⌜ r .length ≤ t .length + 29 ⌝ }
+{
+    with_number(t, b"refused ", number)
+}
+
+// A word, a number and the line's end.
+fn with_number(t: Text, word: &[u8], number: u64) -> Text
+    requires { ⌜ (length (now word) ≤ 8) × (t .length + 29 ≤ capacity) ⌝ }
+    ensures { λ r. ⌜ Adds t (numberLine (now (word .entry)) number) r ⌝ }
+    ensures { λ r. ⌜ r .length ≤ t .length + 29 ⌝ }
+{
+    with_octets(with_decimal(with_octets(t, word), number), b"\n")
+}
