@@ -5,9 +5,9 @@ use mathlib.Core.List.{List, [], _∷_, _++_, append-assoc, append-nil}
 use Prim.Native.Nat.{ℕ, zero, suc, _+_, _<_, _≤_}
 use native.Mathlib.Numerals.{add-one}
 use native.Mathlib.Omega.{arith}
-use lib.ListN.{length, getD, take, set, length-append}
+use lib.ListN.{length, getD, take, set, length-append, length-take}
 use lib.Seq.{take-suc-set, take-suc}
-use Rattle.text.specs.Text.{textOf, Adds, Prints, capacity}
+use Rattle.text.specs.Text.{textOf, Adds, Prints}
 use Rattle.text.specs.declared.Text.{Text}
 
 pub adds-none : (t : Text) → Adds t [] t
@@ -20,9 +20,11 @@ adds-then {t} {r} {s} {xs} {ys} a b =
       text = b .text ∙ ap (λ (l : List ℕ). l ++ ys) (a .text) ∙ append-assoc (textOf t) xs ys;
     }
 
--- growth from an empty text
-pub prints : {t r : Text} {xs : List ℕ} → t .length ≡ 0 → Adds t xs r → r .length ≤ capacity → Prints r xs
-prints {t} {r} {xs} e a f = record { fits = f; text = a .text ∙ ap (λ (n : ℕ). take n (t .octets) ++ xs) e }
+-- growth from an empty text: no growth leaves the array
+pub prints : {t r : Text} {xs : List ℕ} → t .length ≡ 0 → Adds t xs r → Prints r xs
+prints {t} {r} {xs} e a =
+    let text : textOf r ≡ xs = a .text ∙ ap (λ (n : ℕ). take n (t .octets) ++ xs) e in
+    record { fits = omega (arith, a .longer, length-take (r .length) (r .octets), ap length text); text = text }
 
 -- a store at the end
 pub adds-octet : (t : Text) (b : ℕ) → t .length < length (t .octets)

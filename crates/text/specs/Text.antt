@@ -19,7 +19,7 @@ pub record Adds (t : Text) (xs : List ℕ) (r : Text) : Type 0 where
   pub longer : r .length ≡ t .length + length xs
   pub text : textOf r ≡ textOf t ++ xs
 
--- a text that holds xs, and no more than it can
+-- a text of xs, all of it in the array
 pub record Prints (r : Text) (xs : List ℕ) : Type 0 where
-  pub fits : r .length ≤ capacity
+  pub fits : r .length ≤ length (r .octets)
   pub text : textOf r ≡ xs

@@ -2,6 +2,7 @@
 // equation: the text that it returns is the one that it took with certain octets behind it.
 ghost use mathlib.Core.Path.{_≡_};
 ghost use Prim.Native.Nat.{_≤_, min};
+ghost use lib.ListN.{length};
 ghost use Rattle.toeplitz.specs.Hash.{keyLength, hashOutcomeOf};
 ghost use Rattle.toeplitz.specs.TwoWay.{twoWayOutcomeOf};
 ghost use Rattle.text.specs.Text.{Prints};
@@ -10,6 +11,7 @@ ghost use Rattle.text.specs.Lines.{hashLine, verdictLine, hashText, twoW
 mod line;
 mod piece;
 
+use libc::STDOUT_FILENO;
 use line::with_hash;
 use line::with_refusal;
 use line::with_type;
@@ -50,6 +52,15 @@ pub fn two_way_text(key: &[u8]) -> Text
     let ipv4_tcp = with_type(ipv4, b"ipv4_tcp ", toeplitz::two_way(key, 1));
     let ipv6 = with_type(ipv4_tcp, b"ipv6 ", toeplitz::two_way(key, 2));
     with_type(ipv6, b"ipv6_tcp ", toeplitz::two_way(key, 3))
+}
+
+// Writes a text that was made here to standard output.
+pub fn print(t: Text) -> bool
+    requires { ⌜ t .length ≤ length (t .octets) ⌝ }
+{
+    let n = t.length;
+    let octets = t.octets;
+    io::write_all(STDOUT_FILENO, &octets[..n])
 }
 
 // The line of one answer.

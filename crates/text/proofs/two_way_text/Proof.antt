@@ -2,7 +2,6 @@
 -- Assumes nothing.
 use mathlib.Core.List.{List}
 use Prim.Native.Nat.{ℕ}
-use native.Mathlib.Omega.{arith}
 use borrow.Author.Needs.{needs}
 use borrow.Author.Tests.{eq-eqb, ne-eqb}
 use Rattle.text.specs.Text.{Prints}
@@ -21,7 +20,7 @@ key-of c = start-of c .before .before .before .args .key .now
 returns : tie.Need-returns
 returns c =
     simp (ne-eqb _ _ (c .before .before .if1 .taken))
-    (prints (c .before .empty .ensures) (c .with-refusal .ensures .0) (omega (arith, c .with-refusal .ensures .1)))
+    (prints (c .before .empty .ensures) (c .with-refusal .ensures .0))
 
 -- the four growths
 four-lines : (c : tie.After-with-type4) → Prints (c .with-type4 .result) (typeLines (key-of c))
@@ -36,7 +35,6 @@ four-lines c =
     let ipv6-tcp = rw (c .before .two-way4 .ensures) at (c .with-type4 .ensures .0) in
     let none = (start-of c) .empty2 .ensures in
     prints none (adds-then ipv4 (adds-then ipv4-tcp (adds-then ipv6 ipv6-tcp)))
-    (omega (arith, none, c1 .with-type .ensures .1, c2 .with-type2 .ensures .1, c3 .with-type3 .ensures .1, c .with-type4 .ensures .1))
 
 returns-2 : tie.Need-returns-2
 returns-2 c = simp (eq-eqb _ _ (start-of c .before .if1 .left)) (four-lines c)

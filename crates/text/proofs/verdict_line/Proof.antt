@@ -1,13 +1,12 @@
 -- `text::verdict_line` meets its contract: the line behind an empty text.
 -- Assumes nothing.
-use native.Mathlib.Omega.{arith}
 use borrow.Author.Needs.{needs}
 use Rattle.text.proofs.Growth.{prints}
 use Rattle.text.proofs.verdict_line.Statement.{statement}
 use Rattle.text.proofs.verdict_line.Tie as tie
 
 returns : tie.Need-returns
-returns c = prints (c .before .empty .ensures) (c .with-verdict .ensures .0) (omega (arith, c .with-verdict .ensures .1))
+returns c = prints (c .before .empty .ensures) (c .with-verdict .ensures .0)
 
 pub verdict-line-spec : {M : Type 1} → statement M
 verdict-line-spec = tie.close (tie.spec (λ c κs. search needs) (λ c κs. search needs) returns)
