@@ -35,3 +35,8 @@ adds-octet t b h = record { longer = refl; text = rw add-one (take-suc-set (t .o
 pub adds-next : {t r s : Text} (xs : List ℕ) (i : ℕ) → i < length xs → Adds t (take i xs) r → Adds r (getD xs i 0 ∷ []) s
     → Adds t (take (i + 1) xs) s
 adds-next xs i h a b = rw (add-one, take-suc xs i 0) (adds-then a b)
+
+-- the first k octets of a buffer, k at most m, that are xs
+pub adds-first : {t r : Text} (m k : ℕ) {xs : List ℕ} (buffer : List ℕ) → take k buffer ≡ xs → k ≡ length (take k buffer) → k ≤ m
+    → Adds t (take k buffer) r → Adds t xs r × (r .length ≤ t .length + m)
+adds-first m k buffer e l h a = (rw e at a, omega (arith, a .longer))

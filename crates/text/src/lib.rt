@@ -20,9 +20,12 @@ use toeplitz::HashAnswer;
 use toeplitz::KEY_LENGTH;
 use toeplitz::TwoWayAnswer;
 
+// The most octets that a text holds: four lines of the two-way question with room to spare.
+pub const CAPACITY: usize = 160;
+
 // The octets of a text are the first `length` ones.
 pub struct Text {
-    pub octets: [u8; 160],
+    pub octets: [u8; CAPACITY],
     pub length: usize,
 }
 
@@ -80,7 +83,7 @@ fn empty() -> Text
     ensures { λ r. ⌜ r .length ≡ 0 ⌝ }
 {
     Text {
-        octets: [0u8; 160],
+        octets: [0u8; CAPACITY],
         length: 0,
     }
 }

@@ -1,9 +1,13 @@
 // Reads a key from standard input, and prints for each hash type whether the two directions of every
-// conversation have one hash, or `refused 8`. One octet more than a key tells that it is too long.
+// conversation have one hash, or `refused 8`.
 use libc::STDIN_FILENO;
+use toeplitz::KEY_LENGTH;
+
+// One octet more than a key, to tell one that is too long.
+const ROOM: usize = KEY_LENGTH + 1;
 
 fn main() {
-    let mut buffer = [0u8; 41];
+    let mut buffer = [0u8; ROOM];
     let n = io::read_full(STDIN_FILENO, &mut buffer);
     text::print(text::two_way_text(&buffer[..n]));
 }

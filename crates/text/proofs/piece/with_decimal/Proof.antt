@@ -6,6 +6,7 @@ use native.Mathlib.Omega.{arith}
 use borrow.Author.Needs.{needs}
 use Rattle.io.specs.Digits.{digits}
 use Rattle.text.specs.Ascii.{decimal}
+use Rattle.text.proofs.Growth.{adds-first}
 use Rattle.text.proofs.Places.{fewest-decimal, fewest-most}
 use Rattle.text.proofs.piece.with_decimal.Statement.{statement}
 use Rattle.text.proofs.piece.with_decimal.Tie as tie
@@ -26,7 +27,7 @@ returns c =
     let d = c .before .before in
     let made = d .decimal in
     let text = made .ensures .1 .1 ∙ ap (λ (k : ℕ). digits 10 k (n d)) (fewest-decimal (n d) (made .result) (made .ensures .1 .0)) in
-    (rw text at (c .with-octets .ensures), omega (arith, c .with-octets .ensures .longer, few d, made .ensures .0 .1))
+    adds-first 20 (made .result) _ text (made .ensures .0 .1) (few d) (c .with-octets .ensures)
 
 pub with-decimal-spec : {M : Type 1} → statement M
 with-decimal-spec =

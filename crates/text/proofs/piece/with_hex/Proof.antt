@@ -6,6 +6,7 @@ use native.Mathlib.Omega.{arith}
 use borrow.Author.Needs.{needs}
 use Rattle.io.specs.Digits.{digits}
 use Rattle.text.specs.Ascii.{hex8}
+use Rattle.text.proofs.Growth.{adds-first}
 use Rattle.text.proofs.Places.{fewest-most}
 use Rattle.text.proofs.piece.with_hex.Statement.{statement}
 use Rattle.text.proofs.piece.with_hex.Tie as tie
@@ -31,7 +32,7 @@ returns c =
     let d = c .before .before in
     let made = d .hex in
     let text = made .ensures .1 .1 ∙ ap (λ (k : ℕ). digits 16 k (n d)) (eight d) in
-    (rw text at (c .with-octets .ensures), omega (arith, c .with-octets .ensures .longer, eight d, made .ensures .0 .1))
+    adds-first 8 (made .result) _ text (made .ensures .0 .1) (omega (arith, eight d)) (c .with-octets .ensures)
 
 pub with-hex-spec : {M : Type 1} → statement M
 with-hex-spec = tie.close (tie.spec (λ c κs. search needs) (λ c. search needs) (λ c. search needs) with-octets-requires returns)
