@@ -9,7 +9,8 @@ use native.Mathlib.Omega.{arith}
 use lib.ListN.{length, getD}
 use lib.Pow.{shr-shr}
 use lib.Bits.{bitXor}
-use Rattle.toeplitz.specs.Hash.{bitAt, bitsAt, windowAt, whenSet, termAt, xorBelow, fourOctets, Reached}
+use Rattle.toeplitz.specs.Hash.{bitAt, bitsAt, windowAt, whenSet, termAt, xorBelow}
+use Rattle.toeplitz.specs.Inner.{fourOctets, Reached}
 use Rattle.toeplitz.proofs.Linear.{bitAt-lt}
 
 shift-suc : (a k : ℕ) → a * 2 ^ suc k ≡ a * 2 ^ k * 2

@@ -1,6 +1,5 @@
 -- The published hash of a key and an input, and what a hash call answers.
 -- Assumes nothing.
-use mathlib.Core.Path.{_≡_}
 use mathlib.Core.List.{List}
 use mathlib.Core.Bool.{cond}
 use Prim.Native.Nat.{ℕ, zero, suc, _+_, _-_, _*_, _/_, _%_, _^_}
@@ -61,12 +60,3 @@ abbrev pub hashOutcomeOf : HashAnswer → Outcome ℕ
 hashOutcomeOf (Hash h) = value h
 hashOutcomeOf KeyLength = refused keyLengthWrong
 hashOutcomeOf InputLength = refused inputTooLong
-
--- the four octets from octet a on, as a number whose top octet is the first
-abbrev pub fourOctets : List ℕ → ℕ → ℕ
-fourOctets xs a = ((getD xs a 0 * 256 + getD xs (a + 1) 0) * 256 + getD xs (a + 2) 0) * 256 + getD xs (a + 3) 0
-
--- how far a hash is done: the input bits below i, with the window at i and the XOR so far
-pub record Reached (key input : List ℕ) (i window sum : ℕ) : Type 0 where
-  pub here : window ≡ windowAt key i
-  pub so-far : sum ≡ xorBelow (termAt key input) i

@@ -3,4 +3,4 @@ pub mod Outcome
 pub mod Hash
 pub mod Xor
 pub mod TwoWay
-pub mod Search
+pub mod Inner

@@ -5,7 +5,7 @@ ghost use Prim.Native.Nat.{_+_, _*_, _≤_};
 ghost use lib.ListN.{length};
 ghost use Rattle.toeplitz.specs.Hash.{keyLength, maxInput};
 ghost use Rattle.toeplitz.specs.TwoWay.{lastType, addressSize, portSize, twoWayOutcome, twoWayOutcomeOf};
-ghost use Rattle.toeplitz.specs.Search.{FoundIn};
+ghost use Rattle.toeplitz.specs.Inner.{FoundIn};
 use crate::KEY_LENGTH;
 use crate::LAST_TYPE;
 use crate::TwoWayAnswer;
@@ -34,6 +34,7 @@ pub fn two_way(key: &[u8], hash_type: u32) -> TwoWayAnswer
     if let Found::At(b) = in_addresses {
         return TwoWayAnswer::No(b);
     }
+    // The ports stand behind two addresses, at eight bits to an octet.
     let in_ports = first_difference(key, address * 2, port);
     if let Found::At(b) = in_ports {
         return TwoWayAnswer::No(address * 16 + b);

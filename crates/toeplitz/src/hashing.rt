@@ -3,7 +3,8 @@ ghost use mathlib.Core.Path.{_≡_};
 ghost use Prim.Native.Nat.{_+_, _*_, _<_, _≤_};
 ghost use lib.ListN.{length};
 ghost use lib.Bits.{bitXor};
-ghost use Rattle.toeplitz.specs.Hash.{keyLength, maxInput, whenSet, publishedHash, hashOutcome, hashOutcomeOf, Reached};
+ghost use Rattle.toeplitz.specs.Hash.{keyLength, maxInput, whenSet, publishedHash, hashOutcome, hashOutcomeOf};
+ghost use Rattle.toeplitz.specs.Inner.{Reached};
 use crate::HashAnswer;
 use crate::KEY_LENGTH;
 use crate::MAX_INPUT;
@@ -30,6 +31,7 @@ struct Partial {
     sum: u32,
 }
 
+// The hash of a key and an input that no refusal meets.
 fn hash_of(key: &[u8], input: &[u8]) -> u32
     requires { ⌜ (length (now key) ≡ keyLength) × (length (now input) ≤ maxInput) ⌝ }
     ensures { λ r. ⌜ r ≡ publishedHash (now (key .entry)) (now (input .entry)) ⌝ }

@@ -2,7 +2,11 @@
 ghost use mathlib.Core.Path.{_≡_};
 ghost use Prim.Native.Nat.{_+_, _*_, _<_, _≤_};
 ghost use lib.ListN.{length};
-ghost use Rattle.toeplitz.specs.Hash.{keyLength, bitAt, windowAt, fourOctets};
+ghost use Rattle.toeplitz.specs.Hash.{keyLength, bitAt, windowAt};
+ghost use Rattle.toeplitz.specs.Inner.{fourOctets};
+
+// The weight of a window's top bit.
+const TOP_BIT: u32 = 2147483648;
 
 // Bit `i` of the octets, of which bit 0 is the top bit of octet 0.
 pub fn bit_at(octets: &[u8], i: usize) -> u32
@@ -17,7 +21,7 @@ pub fn next_window(key: &[u8], window: u32, i: usize) -> u32
     requires { ⌜ (length (now key) ≡ keyLength) × (i < 288) × (window ≡ windowAt (now key) i) ⌝ }
     ensures { λ r. ⌜ r ≡ windowAt (now (key .entry)) (i + 1) ⌝ }
 {
-    window % 2147483648 * 2 + bit_at(key, i + 32)
+    window % TOP_BIT * 2 + bit_at(key, i + 32)
 }
 
 // The window at the top bit of octet `a`.

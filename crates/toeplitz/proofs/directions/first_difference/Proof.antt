@@ -7,7 +7,7 @@ use native.Mathlib.Omega.{arith}
 use borrow.Author.Needs.{needs}
 use borrow.Author.Count.{below-more}
 use Rattle.toeplitz.specs.Hash.{windowAt}
-use Rattle.toeplitz.specs.Search.{SameBelow}
+use Rattle.toeplitz.specs.Inner.{SameBelow}
 use Rattle.toeplitz.proofs.directions.first_difference.Statement.{statement}
 use Rattle.toeplitz.proofs.directions.first_difference.Tie as tie
 

@@ -5,7 +5,7 @@ use Prim.Native.Nat.{_≤_, _+_, _*_, _-_}
 use native.Mathlib.Nat.{add-zero, add-assoc}
 use native.Mathlib.Omega.{arith}
 use borrow.Author.Needs.{needs}
-use Rattle.toeplitz.specs.Hash.{Reached}
+use Rattle.toeplitz.specs.Inner.{Reached}
 use Rattle.toeplitz.proofs.Windows.{reached-next}
 use Rattle.toeplitz.proofs.hashing.add_octet.Statement.{statement}
 use Rattle.toeplitz.proofs.hashing.add_octet.Tie as tie

@@ -5,7 +5,8 @@ use Prim.Native.Nat.{_≤_, _+_, _*_, _-_}
 use native.Mathlib.Omega.{arith}
 use borrow.Author.Needs.{needs}
 use lib.ListN.{length}
-use Rattle.toeplitz.specs.Hash.{xorBelow, publishedHash, Reached}
+use Rattle.toeplitz.specs.Hash.{xorBelow, publishedHash}
+use Rattle.toeplitz.specs.Inner.{Reached}
 use Rattle.toeplitz.proofs.hashing.hash_of.Statement.{statement}
 use Rattle.toeplitz.proofs.hashing.hash_of.Tie as tie
 

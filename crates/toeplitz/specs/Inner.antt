@@ -1,11 +1,21 @@
--- What the search for a difference between two runs of windows promises to `two_way`.
+-- What the private functions promise each other. Nothing here is needed to read the promises of the two calls.
 -- Assumes nothing.
 use mathlib.Core.Path.{_≡_}
 use mathlib.Core.List.{List}
-use Prim.Native.Nat.{ℕ, _+_, _<_}
-use Rattle.toeplitz.specs.Hash.{windowAt}
+use Prim.Native.Nat.{ℕ, _+_, _*_, _<_}
+use lib.ListN.{getD}
+use Rattle.toeplitz.specs.Hash.{windowAt, termAt, xorBelow}
 use Rattle.toeplitz.specs.declared.directions.Found.{Found}
 use Rattle.toeplitz.specs.declared.directions.Found.the-variants.{At, Nothing}
+
+-- the four octets from octet a on, as a number whose top octet is the first
+abbrev pub fourOctets : List ℕ → ℕ → ℕ
+fourOctets xs a = ((getD xs a 0 * 256 + getD xs (a + 1) 0) * 256 + getD xs (a + 2) 0) * 256 + getD xs (a + 3) 0
+
+-- how far a hash is done: the input bits below i, with the window at i and the XOR so far
+pub record Reached (key input : List ℕ) (i window sum : ℕ) : Type 0 where
+  pub here : window ≡ windowAt key i
+  pub so-far : sum ≡ xorBelow (termAt key input) i
 
 -- the windows at i + k and at m + k are equal at each k below n
 abbrev pub SameBelow : List ℕ → ℕ → ℕ → ℕ → Type 0
