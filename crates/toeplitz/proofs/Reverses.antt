@@ -1,14 +1,14 @@
 -- The reverse of an input of a type is an input of the type, and its own reverse is the input again.
 -- Assumes nothing.
-use mathlib.Core.Path.{_≡_, sym, ap, _∙_}
+use mathlib.Core.Path.{_≡_, ap, _∙_}
 use mathlib.Core.List.{List}
-use Prim.Native.Nat.{ℕ, _<_, _≤_}
+use Prim.Native.Nat.{ℕ, _<_}
 use native.Mathlib.Decide.{decLt}
 use native.Mathlib.Omega.{arith}
 use lib.ListN.{length, getD, List·getD-eq-default}
 use lib.Seq.{ext-getD}
-use Rattle.toeplitz.specs.TwoWay.{sizeOf, addressSize, portSize, inputSize, IsInput, swapped, reverseOf}
-use Rattle.toeplitz.proofs.Mirror.{Place, place, mirror, mirror-lt, mirror-twice, length-swapped, getD-swapped}
+use Rattle.toeplitz.specs.TwoWay.{sizeOf, addressSize, portSize, IsInput, swapped, reverseOf}
+use Rattle.toeplitz.proofs.Mirror.{place, mirror, mirror-lt, mirror-twice, length-swapped, getD-swapped}
 
 module _ (a p : ℕ) (xs : List ℕ) (e : length xs ≡ sizeOf a p) where
   octets-swapped : ((i : ℕ) → getD xs i 0 < 256) → (i : ℕ) → getD (swapped a p xs) i 0 < 256

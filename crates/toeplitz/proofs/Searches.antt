@@ -7,7 +7,7 @@ use native.Mathlib.Decide.{decLt}
 use native.Mathlib.Omega.{arith}
 use Rattle.toeplitz.specs.Hash.{windowAt}
 use Rattle.toeplitz.specs.TwoWay.{inputSize, addressSize, portSize, tellsApart, agree, differAt, verdict}
-use Rattle.toeplitz.specs.Inner.{SameBelow, FoundIn}
+use Rattle.toeplitz.specs.Inner.{FoundIn}
 use Rattle.toeplitz.specs.declared.directions.Found.{Found}
 use Rattle.toeplitz.specs.declared.directions.Found.the-variants.{At, Nothing}
 use Rattle.toeplitz.proofs.Mirror.{mirror1, mirror2, mirror3, mirror4}

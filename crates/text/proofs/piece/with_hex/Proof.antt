@@ -1,7 +1,7 @@
 -- `text::piece::with_hex` meets its contract: `io::hex` writes eight digits, which hold any 32-bit number.
 -- Assumes nothing.
 use mathlib.Core.Path.{_≡_, ap, _∙_}
-use Prim.Native.Nat.{ℕ, _≤_}
+use Prim.Native.Nat.{ℕ}
 use native.Mathlib.Omega.{arith}
 use borrow.Author.Needs.{needs}
 use Rattle.io.specs.Digits.{digits}

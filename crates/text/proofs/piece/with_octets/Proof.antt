@@ -1,6 +1,5 @@
 -- `text::piece::with_octets` meets its contract. The loop's invariant: the first i octets were added.
 -- Assumes nothing.
-use mathlib.Core.Path.{_≡_}
 use Prim.Native.Nat.{_≤_, _-_}
 use native.Mathlib.Omega.{arith}
 use borrow.Author.Needs.{needs}
