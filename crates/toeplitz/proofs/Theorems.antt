@@ -4,18 +4,22 @@
 use mathlib.Core.Path.{_≡_, refl, sym, ap, ap₂, _∙_}
 use mathlib.Core.List.{List}
 use mathlib.Core.Logic.{_↔_, _⊎_, inl, inr}
-use mathlib.Core.Bool.{not}
+use mathlib.Core.Bool.{not, cond}
 use Prim.Native.Nat.{ℕ, zero, suc, _*_, _≤_, _<_}
 use native.Mathlib.Omega.{arith}
 use lib.ListN.{length, getD}
 use lib.Bits.{bitXor, xor-lt}
-use lib.Dec.{lit≤}
+use lib.Dec.{eqb, lit≤}
 use borrow.Author.Tests.{eq-eqb, ne-eqb, eqb-true, eqb-false, not-true, not-false}
-use Rattle.toeplitz.specs.Outcome.{value, refused, inputTooLong, keyLengthWrong, typeUnknown}
-use Rattle.toeplitz.specs.Hash.{keyLength, maxInput, publishedHash, hashOutcome}
+use Rattle.toeplitz.specs.Outcome.{Outcome, value, refused, inputTooLong, keyLengthWrong, typeUnknown}
+use Rattle.toeplitz.specs.Hash.{keyLength, maxInput, publishedHash, hashOutcome, hashOutcomeOf}
 use Rattle.toeplitz.specs.Xor.{xorOctets}
-use Rattle.toeplitz.specs.TwoWay.{lastType, inputSize, IsInput, reverseOf, singleBit, MeetsReverse, tellsApart}
-use Rattle.toeplitz.specs.TwoWay.{Verdict, agree, differAt, verdict, twoWayOutcome, RepeatsEveryTwo}
+use Rattle.toeplitz.specs.TwoWay.{lastType, inputSize, IsInput, reverseOf, singleBit, EqualHashes, tellsApart}
+use Rattle.toeplitz.specs.TwoWay.{Verdict, agree, differAt, verdict, twoWayOutcome, twoWayOutcomeOf, RepeatsEveryTwo}
+use Rattle.toeplitz.specs.declared.HashAnswer.{HashAnswer}
+use Rattle.toeplitz.specs.declared.HashAnswer.the-variants.{Hash, KeyLength, InputLength}
+use Rattle.toeplitz.specs.declared.TwoWayAnswer.{TwoWayAnswer}
+use Rattle.toeplitz.specs.declared.TwoWayAnswer.the-variants.{Yes, No, KeyLength as KeyLength₂, HashType}
 use Rattle.toeplitz.proofs.Linear.{length-xor, getD-xor, linear-in-input, linear-in-key}
 use Rattle.toeplitz.proofs.Lowest.{differ-exactly}
 use Rattle.toeplitz.proofs.OneBit.{one-is-input}
@@ -39,6 +43,20 @@ module _ (key input : List ℕ) where
   -- 7 exactly where the key is, and the input is above 36
   pub hash-refuses-input : (hashOutcome key input ≡ refused inputTooLong) ↔ ((length key ≡ keyLength) × (maxInput < length input))
   hash-refuses-input = limit-refused-exactly (publishedHash key input) inputTooLong key (length input) maxInput (λ q. omega arith)
+
+-- the reading of an answer keeps answers apart, so the contract leaves no choice
+hash-answer : Outcome ℕ → HashAnswer
+hash-answer (value h) = Hash h
+hash-answer (refused n) = cond (eqb n keyLengthWrong) KeyLength InputLength
+
+hash-answer-back : (r : HashAnswer) → hash-answer (hashOutcomeOf r) ≡ r
+unfolding hash-answer
+hash-answer-back (Hash h) = refl
+hash-answer-back KeyLength = refl
+hash-answer-back InputLength = refl
+
+pub hash-answer-determined : (r s : HashAnswer) → hashOutcomeOf r ≡ hashOutcomeOf s → r ≡ s
+hash-answer-determined r s e = sym (hash-answer-back r) ∙ ap hash-answer e ∙ hash-answer-back s
 
 -- linear in the input: the answer for the XOR of two inputs of one length is the XOR of the answers
 pub hash-linear-in-input : (key a b : List ℕ) (x y : ℕ) → length a ≡ length b
@@ -64,6 +82,22 @@ pub xor-octets : (a b : List ℕ) → ((i : ℕ) → getD a i 0 < 256) → ((i :
 xor-octets a b f g i = rw (getD-xor a b i) (xor-lt 8 (getD a i 0) (getD b i 0) (f i) (g i))
 
 -- ---- the two-way call
+
+-- here too the contract leaves no choice
+two-way-answer : Outcome Verdict → TwoWayAnswer
+two-way-answer (value agree) = Yes
+two-way-answer (value (differAt b)) = No b
+two-way-answer (refused n) = cond (eqb n keyLengthWrong) KeyLength₂ HashType
+
+two-way-answer-back : (r : TwoWayAnswer) → two-way-answer (twoWayOutcomeOf r) ≡ r
+unfolding two-way-answer
+two-way-answer-back Yes = refl
+two-way-answer-back (No b) = refl
+two-way-answer-back KeyLength₂ = refl
+two-way-answer-back HashType = refl
+
+pub two-way-answer-determined : (r s : TwoWayAnswer) → twoWayOutcomeOf r ≡ twoWayOutcomeOf s → r ≡ s
+two-way-answer-determined r s e = sym (two-way-answer-back r) ∙ ap two-way-answer e ∙ two-way-answer-back s
 
 -- the inputs of the four types have 8, 12, 32 and 36 octets
 pub input-sizes : (inputSize 0 ≡ 8) × (inputSize 1 ≡ 12) × (inputSize 2 ≡ 32) × (inputSize 3 ≡ 36)
@@ -97,7 +131,7 @@ module _ (key : List ℕ) (t : ℕ) where
 
 module _ (key : List ℕ) (t : ℕ) (hk : length key ≡ keyLength) (ht : t ≤ lastType) where
   -- yes exactly when every input of the type and its reverse have equal published hashes
-  pub two-way-yes-exactly : (twoWayOutcome key t ≡ value agree) ↔ ((xs : List ℕ) → IsInput t xs → MeetsReverse key t xs)
+  pub two-way-yes-exactly : (twoWayOutcome key t ≡ value agree) ↔ ((xs : List ℕ) → IsInput t xs → EqualHashes key t xs)
   two-way-yes-exactly = (
     λ e. verdict-agree key t .0 (two-way-is-verdict key t agree .0 e .2),
     λ w. two-way-is-verdict key t agree .1 (hk, ht, verdict-agree key t .1 w),
@@ -120,7 +154,7 @@ module _ (key : List ℕ) (t : ℕ) (hk : length key ≡ keyLength) (ht : t ≤ 
 
   -- no at b exactly when that bit alone tells an input from its reverse, and no lower one does
   pub two-way-no-exactly : (b : ℕ) → (twoWayOutcome key t ≡ value (differAt b))
-      ↔ ((b < inputSize t * 8) × (MeetsReverse key t (singleBit t b) → ⊥) × ((k : ℕ) → k < b → MeetsReverse key t (singleBit t k)))
+      ↔ ((b < inputSize t * 8) × (EqualHashes key t (singleBit t b) → ⊥) × ((k : ℕ) → k < b → EqualHashes key t (singleBit t k)))
   unfolding verdict tellsApart
   two-way-no-exactly b =
       let lowest = differ-exactly (tellsApart key t) (inputSize t * 8) b in (

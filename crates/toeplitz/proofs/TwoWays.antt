@@ -11,7 +11,7 @@ use lib.ListN.{length}
 use lib.Dec.{eqb}
 use borrow.Author.Tests.{eq-eqb, ne-eqb, eqb-true, not-false}
 use Rattle.toeplitz.specs.Hash.{bitAt, windowAt, whenSet, termAt, xorBelow, publishedHash}
-use Rattle.toeplitz.specs.TwoWay.{sizeOf, inputSize, IsInput, addressSize, portSize, swapped, MeetsReverse, oneBit}
+use Rattle.toeplitz.specs.TwoWay.{sizeOf, inputSize, IsInput, addressSize, portSize, swapped, EqualHashes, oneBit}
 use Rattle.toeplitz.specs.TwoWay.{tellsApart, agree, lowest, verdict}
 use Rattle.toeplitz.proofs.Sums.{below-same}
 use Rattle.toeplitz.proofs.Mirror.{mirror, hash-swapped}
@@ -74,7 +74,7 @@ module _ (key : List ℕ) (t : ℕ) where
 
   -- the verdict is `agree` exactly where every input of the type has the hash of its reverse
   pub verdict-agree : (verdict key t ≡ agree)
-      ↔ ((xs : List ℕ) → IsInput t xs → MeetsReverse key t xs)
+      ↔ ((xs : List ℕ) → IsInput t xs → EqualHashes key t xs)
   unfolding verdict tellsApart
   verdict-agree = (
     λ e xs q. windows-agree key (addressSize t) (portSize t)

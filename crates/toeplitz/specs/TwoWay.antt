@@ -57,8 +57,8 @@ abbrev pub singleBit : ℕ → ℕ → List ℕ
 singleBit t b = oneBit (inputSize t) b
 
 -- an input and its reverse have equal published hashes
-abbrev pub MeetsReverse : List ℕ → ℕ → List ℕ → Type 0
-MeetsReverse key t xs = publishedHash key xs ≡ publishedHash key (reverseOf t xs)
+abbrev pub EqualHashes : List ℕ → ℕ → List ℕ → Type 0
+EqualHashes key t xs = publishedHash key xs ≡ publishedHash key (reverseOf t xs)
 
 -- the input of type t with bit b alone set has another published hash than its reverse
 unfoldable pub tellsApart : List ℕ → ℕ → ℕ → Bool
