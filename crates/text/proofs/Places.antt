@@ -2,12 +2,23 @@
 -- Assumes nothing.
 use mathlib.Core.Path.{_≡_, ap}
 use Prim.Native.Nat.{ℕ, zero, suc, _-_, _/_, _^_, _<_, _≤_}
-use native.Mathlib.Nat.{pow-suc, one-le-pow, pow-le-pow-right}
+use native.Mathlib.Nat.{pow-suc, pow-le-pow-right}
 use native.Mathlib.Decide.{decLt}
 use native.Mathlib.Omega.{arith}
 use borrow.Author.Tests.{lt-ltb, le-ltb}
 use Rattle.io.specs.Digits.{Fewest}
 use Rattle.text.specs.Ascii.{placesIn}
+
+-- where m digits hold n, the fewest are at most m
+pub fewest-most : (b least n k m : ℕ) → 0 < b → least ≤ m → n < b ^ m → Fewest b least n k → k ≤ m
+fewest-most b least n k m hb hl hn q =
+    elim (decLt m k) [
+      | yes l ↦ absurd (omega (arith, q .2 (omega arith), pow-le-pow-right {n = b} hb {i = m} {j = k - 1} (omega arith)))
+      | no o ↦ omega arith
+    ]
+
+one-digit : (n k : ℕ) → n < 10 → Fewest 10 1 n k → k ≡ 1
+one-digit n k h q = omega (arith, q .0, fewest-most 10 1 n k 1 (omega arith) (omega arith) h q)
 
 less-one : (j : ℕ) → 10 ^ (suc j - 1) ≡ 10 ^ j
 less-one j = ap (λ (x : ℕ). 10 ^ x) (omega arith)
@@ -21,30 +32,15 @@ fewest-tenth n (suc j) h q = (
   λ l. omega (arith, q .2 (omega arith), pow-suc 10 j, less-one j, less-one (suc j)),
 )
 
--- with a limit on the digits that grows with the number
 fewest-in : (f n k : ℕ) → n ≤ f → Fewest 10 1 n k → k ≡ placesIn f n
-fewest-in f n zero h q = absurd (omega arith)
-fewest-in zero n (suc j) h q =
-    elim (decLt 0 j) [
-      | yes l ↦ absurd (omega (arith, less-one j, q .2 (omega arith), one-le-pow j 10 (omega arith)))
-      | no m ↦ omega arith
-    ]
+fewest-in zero n k h q = one-digit n k (omega arith) q
+fewest-in (suc f) n zero h q = absurd (omega arith)
 fewest-in (suc f) n (suc j) h q =
     elim (decLt n 10) [
-      | yes l ↦ rw (lt-ltb n 10 l) (elim (decLt 0 j) [
-        | yes m ↦ absurd (omega (arith, less-one j, q .2 (omega arith), pow-le-pow-right {n = 10} (omega arith) {i = 1} {j = j} (omega arith)))
-        | no m ↦ omega arith
-      ])
+      | yes l ↦ rw (lt-ltb n 10 l) (one-digit n (suc j) l q)
       | no l ↦ rw (le-ltb n 10 (omega arith)) (ap suc (fewest-in f (n / 10) j (omega arith) (fewest-tenth n j (omega arith) q)))
     ]
 
+-- `io::decimal` writes as many digits as `decimal` has
 pub fewest-decimal : (n k : ℕ) → Fewest 10 1 n k → k ≡ placesIn n n
 fewest-decimal n k q = fewest-in n n k (omega arith) q
-
--- where m digits hold n, the fewest are at most m
-pub fewest-most : (b least n k m : ℕ) → 0 < b → least ≤ m → n < b ^ m → Fewest b least n k → k ≤ m
-fewest-most b least n k m hb hl hn q =
-    elim (decLt m k) [
-      | yes l ↦ absurd (omega (arith, q .2 (omega arith), pow-le-pow-right {n = b} hb {i = m} {j = k - 1} (omega arith)))
-      | no o ↦ omega arith
-    ]

@@ -18,6 +18,7 @@ use line::with_type;
 use line::with_verdict;
 use toeplitz::HashAnswer;
 use toeplitz::KEY_LENGTH;
+use toeplitz::KEY_LENGTH_WRONG;
 use toeplitz::TwoWayAnswer;
 
 // The most octets that a text holds: four lines of the two-way question with room to spare.
@@ -28,13 +29,6 @@ pub struct Text {
     pub octets: [u8; CAPACITY],
     pub length: usize,
 }
-
-// The numbers of refusals.
-pub const INPUT_TOO_LONG: u64 = 7;
-
-pub const KEY_LENGTH_WRONG: u64 = 8;
-
-pub const TYPE_UNKNOWN: u64 = 9;
 
 // What the hash program prints for the octets that it read: 40 key octets, then the input.
 pub fn hash_text(octets: &[u8]) -> Text

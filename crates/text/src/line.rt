@@ -7,14 +7,14 @@ ghost use Rattle.toeplitz.specs.Hash.{hashOutcomeOf};
 ghost use Rattle.toeplitz.specs.TwoWay.{twoWayOutcomeOf};
 ghost use Rattle.text.specs.Text.{capacity, Adds};
 ghost use Rattle.text.specs.Lines.{numberLine, refusalLine, hashLine, verdictLine};
-use crate::INPUT_TOO_LONG;
-use crate::KEY_LENGTH_WRONG;
-use crate::TYPE_UNKNOWN;
 use crate::Text;
 use crate::piece::with_decimal;
 use crate::piece::with_hex;
 use crate::piece::with_octets;
 use toeplitz::HashAnswer;
+use toeplitz::INPUT_TOO_LONG;
+use toeplitz::KEY_LENGTH_WRONG;
+use toeplitz::TYPE_UNKNOWN;
 use toeplitz::TwoWayAnswer;
 
 pub fn with_hash(t: Text, answer: HashAnswer) -> Text
@@ -51,12 +51,12 @@ pub fn with_verdict(t: Text, answer: TwoWayAnswer) -> Text
     }
 }
 
-pub fn with_refusal(t: Text, number: u64) -> Text
+pub fn with_refusal(t: Text, number: u32) -> Text
     requires { ⌜ t .length + 29 ≤ capacity ⌝ }
     ensures { λ r. ⌜ Adds t (refusalLine number) r ⌝ }
     ensures { λ r. ⌜ r .length ≤ t .length + 29 ⌝ }
 {
-    with_number(t, b"refused ", number)
+    with_number(t, b"refused ", number as u64)
 }
 
 // A word, a number and the line's end.

@@ -14,6 +14,13 @@ pub const MAX_INPUT: usize = 36;
 
 pub const LAST_TYPE: u32 = 3;
 
+// The refusals by number.
+pub const INPUT_TOO_LONG: u32 = 7;
+
+pub const KEY_LENGTH_WRONG: u32 = 8;
+
+pub const TYPE_UNKNOWN: u32 = 9;
+
 pub enum HashAnswer {
     Hash(u32),
     // The key is not 40 octets.
