@@ -10,7 +10,15 @@ use Rattle.text.specs.declared.Text.{Text}
 abbrev pub capacity : ℕ
 capacity = 160
 
--- the octets of a text
+-- the most octets of one line: a word of at most 8, a number of at most 20 digits, and the line's end
+abbrev pub longestLine : ℕ
+longestLine = 29
+
+-- and with the name of a hash type before it, at most 9
+abbrev pub longestTypeLine : ℕ
+longestTypeLine = 38
+
+-- the octets of a text: what stands behind them in the array is free
 abbrev pub textOf : Text → List ℕ
 textOf t = take (t .length) (t .octets)
 

@@ -1,11 +1,11 @@
-// One line behind a text, of at most 29 octets, or 38 with the name of a hash type.
+// One line behind a text.
 ghost use mathlib.Core.Path.{_≡_};
 ghost use mathlib.Core.List.{_++_};
 ghost use Prim.Native.Nat.{_+_, _≤_};
 ghost use lib.ListN.{length};
 ghost use Rattle.toeplitz.specs.Hash.{hashOutcomeOf};
 ghost use Rattle.toeplitz.specs.TwoWay.{twoWayOutcomeOf};
-ghost use Rattle.text.specs.Text.{capacity, Adds};
+ghost use Rattle.text.specs.Text.{capacity, longestLine, longestTypeLine, Adds};
 ghost use Rattle.text.specs.Lines.{numberLine, refusalLine, hashLine, verdictLine};
 use crate::Text;
 use crate::piece::with_decimal;
@@ -18,9 +18,9 @@ use toeplitz::TYPE_UNKNOWN;
 use toeplitz::TwoWayAnswer;
 
 pub fn with_hash(t: Text, answer: HashAnswer) -> Text
-    requires { ⌜ t .length + 29 ≤ capacity ⌝ }
+    requires { ⌜ t .length + longestLine ≤ capacity ⌝ }
     ensures { λ r. ⌜ Adds t (hashLine (hashOutcomeOf answer)) r ⌝ }
-    ensures { λ r. ⌜ r .length ≤ t .length + 29 ⌝ }
+    ensures { λ r. ⌜ r .length ≤ t .length + longestLine ⌝ }
 {
     match answer {
         HashAnswer::Hash(h) => with_octets(with_hex(t, h), b"\n"),
@@ -31,17 +31,17 @@ pub fn with_hash(t: Text, answer: HashAnswer) -> Text
 
 // The name of a hash type, then the answer for it.
 pub fn with_type(t: Text, name: &[u8], answer: TwoWayAnswer) -> Text
-    requires { ⌜ (length (now name) ≤ 9) × (t .length + 38 ≤ capacity) ⌝ }
+    requires { ⌜ (length (now name) ≤ 9) × (t .length + longestTypeLine ≤ capacity) ⌝ }
     ensures { λ r. ⌜ Adds t (now (name .entry) ++ verdictLine (twoWayOutcomeOf answer)) r ⌝ }
-    ensures { λ r. ⌜ r .length ≤ t .length + 38 ⌝ }
+    ensures { λ r. ⌜ r .length ≤ t .length + longestTypeLine ⌝ }
 {
     with_verdict(with_octets(t, name), answer)
 }
 
 pub fn with_verdict(t: Text, answer: TwoWayAnswer) -> Text
-    requires { ⌜ t .length + 29 ≤ capacity ⌝ }
+    requires { ⌜ t .length + longestLine ≤ capacity ⌝ }
     ensures { λ r. ⌜ Adds t (verdictLine (twoWayOutcomeOf answer)) r ⌝ }
-    ensures { λ r. ⌜ r .length ≤ t .length + 29 ⌝ }
+    ensures { λ r. ⌜ r .length ≤ t .length + longestLine ⌝ }
 {
     match answer {
         TwoWayAnswer::Yes => with_octets(t, b"yes\n"),
@@ -52,18 +52,18 @@ pub fn with_verdict(t: Text, answer: TwoWayAnswer) -> Text
 }
 
 pub fn with_refusal(t: Text, number: u32) -> Text
-    requires { ⌜ t .length + 29 ≤ capacity ⌝ }
+    requires { ⌜ t .length + longestLine ≤ capacity ⌝ }
     ensures { λ r. ⌜ Adds t (refusalLine number) r ⌝ }
-    ensures { λ r. ⌜ r .length ≤ t .length + 29 ⌝ }
+    ensures { λ r. ⌜ r .length ≤ t .length + longestLine ⌝ }
 {
     with_number(t, b"refused ", number as u64)
 }
 
 // A word, a number and the line's end.
 fn with_number(t: Text, word: &[u8], number: u64) -> Text
-    requires { ⌜ (length (now word) ≤ 8) × (t .length + 29 ≤ capacity) ⌝ }
+    requires { ⌜ (length (now word) ≤ 8) × (t .length + longestLine ≤ capacity) ⌝ }
     ensures { λ r. ⌜ Adds t (numberLine (now (word .entry)) number) r ⌝ }
-    ensures { λ r. ⌜ r .length ≤ t .length + 29 ⌝ }
+    ensures { λ r. ⌜ r .length ≤ t .length + longestLine ⌝ }
 {
     with_octets(with_decimal(with_octets(t, word), number), b"\n")
 }

@@ -74,6 +74,6 @@ pub linear-in-key : (k l input : List ℕ)
 unfolding publishedHash termAt windowAt
 linear-in-key k l input =
     below-same (termAt (xorOctets k l) input) (λ i. bitXor (termAt k input i) (termAt l input i)) (length input * 8)
-    (λ i h. ap (whenSet (bitAt input i)) (bitsAt-xor k l i 32)
+    (λ i h. ap (whenSet (bitAt input i)) (bitsAt-xor k l i _)
     ∙ whenSet-windows (bitAt input i) (windowAt k i) (windowAt l i))
     ∙ below-xor (termAt k input) (termAt l input) (length input * 8)

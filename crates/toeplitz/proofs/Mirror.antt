@@ -149,20 +149,20 @@ module _ (a p : ℕ) (xs : List ℕ) (e : length xs ≡ sizeOf a p) where
   pub getD-swapped : (k : ℕ) → Place a p k → getD (swapped a p xs) k 0 ≡ getD xs (mirror a p k) 0
   unfolding swapped
   getD-swapped k (part1 h) =
-      getD-first a2 (a1 ++ (p2 ++ p1)) a k l1 h ∙ getD-take a (drop a xs) k 0 h ∙ getD-drop a xs k 0
+      getD-first a2 _ a k l1 h ∙ getD-take a (drop a xs) k 0 h ∙ getD-drop a xs k 0
       ∙ ap (λ (m : ℕ). getD xs m 0) (omega (arith, mirror1 a p k h))
   getD-swapped k (part2 g h) =
-      getD-second a2 (a1 ++ (p2 ++ p1)) a k l1 g ∙ getD-first a1 (p2 ++ p1) a (k - a) l2 (omega arith)
+      getD-second a2 _ a k l1 g ∙ getD-first a1 _ a (k - a) l2 (omega arith)
       ∙ getD-take a xs (k - a) 0 (omega arith)
       ∙ ap (λ (m : ℕ). getD xs m 0) (sym (mirror2 a p k g h))
   getD-swapped k (part3 g h) =
-      getD-second a2 (a1 ++ (p2 ++ p1)) a k l1 (omega arith) ∙ getD-second a1 (p2 ++ p1) a (k - a) l2 (omega arith)
-      ∙ getD-first p2 p1 p (k - a - a) l3 (omega arith) ∙ getD-take p (drop (a + a + p) xs) (k - a - a) 0 (omega arith)
+      getD-second a2 _ a k l1 (omega arith) ∙ getD-second a1 _ a (k - a) l2 (omega arith)
+      ∙ getD-first p2 _ p (k - a - a) l3 (omega arith) ∙ getD-take p (drop (a + a + p) xs) (k - a - a) 0 (omega arith)
       ∙ getD-drop (a + a + p) xs (k - a - a) 0
       ∙ ap (λ (m : ℕ). getD xs m 0) (omega (arith, mirror3 a p k g h))
   getD-swapped k (part4 g h) =
-      getD-second a2 (a1 ++ (p2 ++ p1)) a k l1 (omega arith) ∙ getD-second a1 (p2 ++ p1) a (k - a) l2 (omega arith)
-      ∙ getD-second p2 p1 p (k - a - a) l3 (omega arith) ∙ getD-take p (drop (a + a) xs) (k - a - a - p) 0 (omega arith)
+      getD-second a2 _ a k l1 (omega arith) ∙ getD-second a1 _ a (k - a) l2 (omega arith)
+      ∙ getD-second p2 _ p (k - a - a) l3 (omega arith) ∙ getD-take p (drop (a + a) xs) (k - a - a - p) 0 (omega arith)
       ∙ getD-drop (a + a) xs (k - a - a - p) 0
       ∙ ap (λ (m : ℕ). getD xs m 0) (omega (arith, mirror4 a p k g))
 

@@ -13,32 +13,32 @@ use Rattle.toeplitz.proofs.directions.first_difference.Tie as tie
 
 abbrev Inv-loop : tie.InvT-loop
 Inv-loop key at size left₀ right₀ j₀ left right j =
-    (j ≤ size * 8) × (left ≡ windowAt key (at * 8 + j)) × (right ≡ windowAt key ((at + size) * 8 + j))
-    × SameBelow key (at * 8) ((at + size) * 8) j
+    (left ≡ windowAt key (at * 8 + j)) × (right ≡ windowAt key ((at + size) * 8 + j))
+    × SameBelow key (at * 8) ((at + size) * 8) j × (j ≤ size * 8)
 
 abbrev μ-loop : tie.MeasureT-loop
 μ-loop key at size left₀ right₀ j₀ left right j = size * 8 - j
 
 loop-holds : tie.Need-loop-holds Inv-loop μ-loop
 loop-holds c = (
-  omega arith,
   rw add-zero (c .before .octet-window .ensures),
   rw add-zero (c .octet-window2 .ensures),
   λ k h. absurd (omega arith),
+  omega arith,
 )
 
 returns : tie.Need-returns Inv-loop μ-loop
 returns c =
     let inv = c .before .before .loop .inv in
-    (omega arith, λ e. c .if1 .taken (inv .1 ∙ e ∙ sym (inv .2)), inv .3)
+    (omega arith, λ e. c .if1 .taken (inv .0 ∙ e ∙ sym (inv .1)), inv .2)
 
 loop-again : tie.Need-loop-again Inv-loop μ-loop
 loop-again c =
     let inv = c .before .before .before .before .loop .inv in (
-      omega arith,
       rw (← add-assoc) (c .before .next-window .ensures),
       rw (← add-assoc) (c .next-window2 .ensures),
-      below-more _ _ (inv .3) (sym (inv .1) ∙ c .before .before .if1 .left ∙ inv .2),
+      below-more _ _ (inv .2) (sym (inv .0) ∙ c .before .before .if1 .left ∙ inv .1),
+      omega arith,
     )
 
 pub first-difference-spec : {M : Type 1} → statement M
@@ -55,12 +55,12 @@ first-difference-spec =
     returns
     (λ c. search needs)
     (λ c. search needs)
-    (λ c κs. (omega arith, omega arith, c .before .before .loop .inv .1))
+    (λ c κs. (omega arith, omega arith, c .before .before .loop .inv .0))
     (λ c. search needs)
     (λ c. search needs)
     (λ c. search needs)
-    (λ c κs. (omega arith, omega arith, c .before .before .before .loop .inv .2))
+    (λ c κs. (omega arith, omega arith, c .before .before .before .loop .inv .1))
     (λ c. search needs)
     (λ c. search needs)
     loop-again
-    (λ c k h. c .before .loop .inv .3 k (omega arith)))
+    (λ c k h. c .before .loop .inv .2 k (omega arith)))

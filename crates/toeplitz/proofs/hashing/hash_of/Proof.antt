@@ -11,26 +11,26 @@ use Rattle.toeplitz.proofs.hashing.hash_of.Statement.{statement}
 use Rattle.toeplitz.proofs.hashing.hash_of.Tie as tie
 
 abbrev Inv-loop : tie.InvT-loop
-Inv-loop key input window₀ sum₀ at₀ window sum at = (at ≤ length input) × Reached key input (at * 8) window sum
+Inv-loop key input window₀ sum₀ at₀ window sum at = Reached key input (at * 8) window sum × (at ≤ length input)
 
 abbrev μ-loop : tie.MeasureT-loop
 μ-loop key input window₀ sum₀ at₀ window sum at = length input - at
 
 loop-holds : tie.Need-loop-holds Inv-loop μ-loop
 unfolding xorBelow
-loop-holds c = (omega arith, record { here = c .octet-window .ensures; so-far = refl })
+loop-holds c = (record { here = c .octet-window .ensures; so-far = refl }, omega arith)
 
 loop-again : tie.Need-loop-again Inv-loop μ-loop
 loop-again c =
     let at = c .before .before .loop .at in
     let e : at * 8 + 8 ≡ (at + 1) * 8 = omega arith in
-    (omega arith, rw e at (c .add-octet .ensures))
+    (rw e at (c .add-octet .ensures), omega arith)
 
 returns : tie.Need-returns Inv-loop μ-loop
 unfolding publishedHash
 returns c =
     let e : c .before .loop .at ≡ length (c .before .before .before .before .before .args .input .now) = omega arith in
-    rw e at (c .before .loop .inv .1 .so-far)
+    rw e at (c .before .loop .inv .0 .so-far)
 
 pub hash-of-spec : {M : Type 1} → statement M
 hash-of-spec =
@@ -40,7 +40,7 @@ hash-of-spec =
     μ-loop
     (λ c κs. search needs)
     loop-holds
-    (λ c κs. ((omega arith, omega arith, omega arith), c .before .loop .inv .1))
+    (λ c κs. ((omega arith, omega arith, omega arith), c .before .loop .inv .0))
     (λ c. search needs)
     (λ c. search needs)
     loop-again
