@@ -31,7 +31,7 @@ module _ (key : List ℕ) (r : RepeatsEveryTwo key) where
   windows-again zero i h = ap (windowAt key) (omega arith)
   windows-again (suc m) i h =
       let next : i + suc m * 16 ≡ i + m * 16 + 16 = omega arith in
-      ap (windowAt key) next ∙ bits-again (i + m * 16) 32 (omega arith) ∙ windows-again m i (omega arith)
+      ap (windowAt key) next ∙ bits-again (i + m * 16) _ (omega arith) ∙ windows-again m i (omega arith)
 
   -- the windows at two places that are m * 16 bits apart
   apart : (m i j : ℕ) → j ≡ i + m * 16 → j + 32 ≤ 320 → windowAt key i ≡ windowAt key j
