@@ -5,7 +5,8 @@ use mathlib.Core.Bool.{cond}
 use Prim.Native.Nat.{ℕ}
 use lib.ListN.{length, take, drop}
 use lib.Dec.{eqb}
-use Rattle.toeplitz.specs.Outcome.{Outcome, value, refused, keyLengthWrong}
+use Rattle.octets.specs.Outcome.{Outcome, value, refused}
+use Rattle.toeplitz.specs.Refusals.{keyLengthWrong}
 use Rattle.toeplitz.specs.Hash.{keyLength, hashOutcome}
 use Rattle.toeplitz.specs.TwoWay.{Verdict, agree, differAt, twoWayOutcome}
 use Rattle.text.specs.Ascii.{ascii, decimal, hex8}

@@ -10,7 +10,8 @@ use native.Mathlib.Omega.{arith}
 use lib.ListN.{length}
 use lib.Dec.{eqb, leb}
 use borrow.Author.Tests.{eq-eqb, ne-eqb, eqb-true, eqb-false, le-leb, lt-leb, leb-true, leb-false}
-use Rattle.toeplitz.specs.Outcome.{Outcome, value, refused, keyLengthWrong}
+use Rattle.octets.specs.Outcome.{Outcome, value, refused}
+use Rattle.toeplitz.specs.Refusals.{keyLengthWrong}
 use Rattle.toeplitz.specs.Hash.{keyLength}
 
 module _ {A : Type 0} (v : A) (r : ℕ) where

@@ -11,7 +11,8 @@ use lib.ListN.{length, getD}
 use lib.Bits.{bitXor, xor-lt}
 use lib.Dec.{eqb, lit≤}
 use borrow.Author.Tests.{eq-eqb, ne-eqb, eqb-true, eqb-false, not-true, not-false}
-use Rattle.toeplitz.specs.Outcome.{Outcome, value, refused, inputTooLong, keyLengthWrong, typeUnknown}
+use Rattle.octets.specs.Outcome.{Outcome, value, refused}
+use Rattle.toeplitz.specs.Refusals.{inputTooLong, keyLengthWrong, typeUnknown}
 use Rattle.toeplitz.specs.Hash.{keyLength, maxInput, publishedHash, hashOutcome, hashOutcomeOf}
 use Rattle.toeplitz.specs.Xor.{xorOctets}
 use Rattle.toeplitz.specs.TwoWay.{lastType, inputSize, IsInput, reverseOf, singleBit, EqualHashes, tellsApart}

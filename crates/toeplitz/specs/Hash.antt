@@ -6,7 +6,8 @@ use Prim.Native.Nat.{ℕ, zero, suc, _+_, _-_, _*_, _/_, _%_, _^_}
 use lib.ListN.{length, getD}
 use lib.Dec.{eqb, leb}
 use lib.Bits.{bitXor}
-use Rattle.toeplitz.specs.Outcome.{Outcome, value, refused, inputTooLong, keyLengthWrong}
+use Rattle.octets.specs.Outcome.{Outcome, value, refused}
+use Rattle.toeplitz.specs.Refusals.{inputTooLong, keyLengthWrong}
 use Rattle.toeplitz.specs.declared.HashAnswer.{HashAnswer}
 use Rattle.toeplitz.specs.declared.HashAnswer.the-variants.{Hash, KeyLength, InputLength}
 

@@ -1,5 +1,5 @@
 -- The definitions that the contracts of `toeplitz` cite, in the order of document 01.
-pub mod Outcome
+pub mod Refusals
 pub mod Hash
 pub mod Xor
 pub mod TwoWay

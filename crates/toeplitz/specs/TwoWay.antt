@@ -6,7 +6,9 @@ use mathlib.Core.Bool.{Bool, true, false, not, cond}
 use Prim.Native.Nat.{ℕ, zero, suc, _+_, _-_, _*_, _/_, _%_, _^_, _<_}
 use lib.ListN.{length, getD, take, drop, set, replicate}
 use lib.Dec.{eqb, leb}
-use Rattle.toeplitz.specs.Outcome.{Outcome, value, refused, keyLengthWrong, typeUnknown}
+use Rattle.octets.specs.Numbers.{AreOctets}
+use Rattle.octets.specs.Outcome.{Outcome, value, refused}
+use Rattle.toeplitz.specs.Refusals.{keyLengthWrong, typeUnknown}
 use Rattle.toeplitz.specs.Hash.{keyLength, publishedHash}
 use Rattle.toeplitz.specs.declared.TwoWayAnswer.{TwoWayAnswer}
 use Rattle.toeplitz.specs.declared.TwoWayAnswer.the-variants.{Yes, No, KeyLength, HashType}
@@ -38,7 +40,7 @@ inputSize t = sizeOf (addressSize t) (portSize t)
 -- document 01's input of type t: any octets of that number, whether a packet carries them or not
 pub record IsInput (t : ℕ) (xs : List ℕ) : Type 0 where
   pub size : length xs ≡ inputSize t
-  pub octets : (i : ℕ) → getD xs i 0 < 256
+  pub octets : AreOctets xs
 
 -- source and destination address exchanged, then source and destination port
 unfoldable pub swapped : ℕ → ℕ → List ℕ → List ℕ

@@ -6,7 +6,7 @@ use mathlib.Core.Bool.{not}
 use Prim.Native.Nat.{ℕ, _*_, _≤_}
 use lib.Dec.{eqb, lit≤}
 use lib.ListN.{length}
-use Rattle.toeplitz.specs.Outcome.{value}
+use Rattle.octets.specs.Outcome.{value}
 use Rattle.toeplitz.specs.Hash.{keyLength, bitsAt, windowAt, whenSet, termAt, xorBelow, publishedHash}
 use Rattle.toeplitz.specs.TwoWay.{lastType, inputSize, Verdict, lowest, twoWayOutcome}
 use Rattle.toeplitz.proofs.Mirror.{pick, mirror}

@@ -4,7 +4,7 @@ use mathlib.Core.Path.{_≡_}
 use mathlib.Core.List.{List, [], _∷_, _++_}
 use Prim.Native.Nat.{ℕ, zero, suc}
 use lib.ListN.{replicate, set}
-use Rattle.toeplitz.specs.Outcome.{value}
+use Rattle.octets.specs.Outcome.{value}
 use Rattle.toeplitz.specs.Hash.{hashOutcome}
 use Rattle.toeplitz.specs.TwoWay.{Verdict, agree, differAt, twoWayOutcome}
 

@@ -6,7 +6,7 @@ use Prim.Native.Nat.{ℕ, _+_, _*_}
 use native.Mathlib.Omega.{arith}
 use borrow.Author.Needs.{needs}
 use borrow.Author.Tests.{eq-eqb, ne-eqb, le-leb, lt-leb}
-use Rattle.toeplitz.specs.Outcome.{value}
+use Rattle.octets.specs.Outcome.{value}
 use Rattle.toeplitz.specs.TwoWay.{addressSize, portSize, Verdict, differAt, verdict, twoWayOutcome}
 use Rattle.toeplitz.specs.declared.directions.Found.{Found}
 use Rattle.toeplitz.proofs.Searches.{InAddresses, InPorts, first-search, second-search, in-addresses, in-ports, nowhere}

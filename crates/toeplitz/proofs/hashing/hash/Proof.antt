@@ -3,7 +3,7 @@
 use mathlib.Core.Path.{ap}
 use borrow.Author.Needs.{needs}
 use borrow.Author.Tests.{eq-eqb, ne-eqb, le-leb, lt-leb}
-use Rattle.toeplitz.specs.Outcome.{value}
+use Rattle.octets.specs.Outcome.{value}
 use Rattle.toeplitz.proofs.hashing.hash.Statement.{statement}
 use Rattle.toeplitz.proofs.hashing.hash.Tie as tie
 

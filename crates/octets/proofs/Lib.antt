@@ -1,0 +1,3 @@
+-- The laws that more than one crate cites.
+pub mod Copies
+pub mod Numbers

@@ -1,0 +1,24 @@
+-- `octets::read_u32` meets its contract: the four octets joined are the number by its definition.
+-- Assumes nothing.
+use mathlib.Core.Path.{sym, _∙_}
+use borrow.Author.Needs.{needs}
+use Rattle.octets.proofs.Numbers.{number-four}
+use Rattle.octets.proofs.read_u32.Statement.{statement}
+use Rattle.octets.proofs.read_u32.Tie as tie
+
+returns : tie.Need-returns
+returns c = c .joined .ensures ∙ sym (number-four _ _)
+
+pub read-u32-spec : {M : Type 1} → statement M
+read-u32-spec =
+    tie.close
+    (tie.spec
+    (λ c. search needs)
+    (λ c. search needs)
+    (λ c. search needs)
+    (λ c. search needs)
+    (λ c. search needs)
+    (λ c. search needs)
+    (λ c. search needs)
+    (λ c κs. search needs)
+    returns)

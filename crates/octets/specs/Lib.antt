@@ -1,0 +1,3 @@
+-- The definitions that more than one crate cites.
+pub mod Outcome
+pub mod Numbers

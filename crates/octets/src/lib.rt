@@ -1,0 +1,61 @@
+// Octets in slices: a copy, and little-endian numbers at a place. What more than one crate needs, and no more.
+ghost use mathlib.Core.Path.{_≡_};
+ghost use Prim.Native.Nat.{_+_, _*_, _≤_};
+ghost use lib.ListN.{length};
+ghost use lib.Seq.{sets};
+ghost use Rattle.octets.specs.Numbers.{numberAt, octetsOf};
+
+// Copies src over dst, which is as long.
+pub fn copy(dst: &mut [u8], src: &[u8])
+    requires { ⌜ length (now src) ≡ length (now dst) ⌝ }
+    ensures { λ _. ⌜ now (dst .exit) ≡ now (src .entry) ⌝ }
+{
+    let mut i = 0;
+    while i < src.len() {
+        dst[i] = src[i];
+        i += 1;
+    }
+}
+
+// The number in the four octets from `at` on.
+pub fn read_u32(octets: &[u8], at: usize) -> u32
+    requires { ⌜ at + 4 ≤ length (now octets) ⌝ }
+    ensures { λ r. ⌜ r ≡ numberAt 4 (now (octets .entry)) at ⌝ }
+{
+    joined(octets[at], octets[at + 1], octets[at + 2], octets[at + 3])
+}
+
+// The number with these octets, the lowest first.
+fn joined(a: u8, b: u8, c: u8, d: u8) -> u32
+    ensures { λ r. ⌜ r ≡ a + 256 * b + 65536 * c + 16777216 * d ⌝ }
+{
+    a as u32 + 256 * (b as u32) + 65536 * (c as u32) + 16777216 * (d as u32)
+}
+
+// The number in the eight octets from `at` on.
+pub fn read_u64(octets: &[u8], at: usize) -> u64
+    requires { ⌜ at + 8 ≤ length (now octets) ⌝ }
+    ensures { λ r. ⌜ r ≡ numberAt 8 (now (octets .entry)) at ⌝ }
+{
+    read_u32(octets, at) as u64 + 4294967296 * (read_u32(octets, at + 4) as u64)
+}
+
+// Puts v into the four octets from `at` on.
+pub fn write_u32(octets: &mut [u8], at: usize, v: u32)
+    requires { ⌜ at + 4 ≤ length (now octets) ⌝ }
+    ensures { λ _. ⌜ now (octets .exit) ≡ sets (now (octets .entry)) at (octetsOf 4 v) ⌝ }
+{
+    octets[at] = (v % 256) as u8;
+    octets[at + 1] = (v / 256 % 256) as u8;
+    octets[at + 2] = (v / 65536 % 256) as u8;
+    octets[at + 3] = (v / 16777216 % 256) as u8;
+}
+
+// Puts v into the eight octets from `at` on.
+pub fn write_u64(octets: &mut [u8], at: usize, v: u64)
+    requires { ⌜ at + 8 ≤ length (now octets) ⌝ }
+    ensures { λ _. ⌜ now (octets .exit) ≡ sets (now (octets .entry)) at (octetsOf 8 v) ⌝ }
+{
+    write_u32(octets, at, (v % 4294967296) as u32);
+    write_u32(octets, at + 4, (v / 4294967296) as u32);
+}
