@@ -4,10 +4,10 @@
 use mathlib.Core.Path.{_≡_, refl, sym, ap, ap₂, _∙_}
 use mathlib.Core.List.{List, [], _∷_, _++_}
 use Prim.Native.Nat.{ℕ, zero, suc, _+_, _*_, _/_, _%_, _^_, _≤_, _<_}
-use native.Mathlib.Nat.{add-zero, suc-add, zero-add, add-assoc, one-mul, mul-add, mul-assoc, pow-suc, pow-succ', div-one, div-div-eq-div-mul, div-lt-iff-lt-mul, mod-lt, mod-add-div, pow-le-pow-right}
+use native.Mathlib.Nat.{add-zero, suc-add, zero-add, add-assoc, one-mul, mul-add, mul-assoc, pow-suc, pow-succ', div-one, div-div-eq-div-mul, div-lt-iff-lt-mul, mod-lt, mod-eq-of-lt, div-eq-of-lt, mod-add-div, pow-le-pow-right}
 use native.Mathlib.Omega.{arith}
 use lib.Arith.{mod-mul, digits-div, digits-mod}
-use lib.ListN.{length, getD, take, drop, set, List·getD-append}
+use lib.ListN.{length, getD, take, drop, set, replicate, List·getD-append}
 use lib.Seq.{getD-append-add, getD-drop, drop-cons, sets}
 use Rattle.octets.proofs.Copies.{sets-append}
 use Rattle.octets.specs.Numbers.{AreOctets, numberAt, octetsOf}
@@ -140,3 +140,14 @@ stored-eight l m i v e =
     let four = octetsOf 4 v in
     let place : i + length four ≡ i + 4 = ap (λ (n : ℕ). i + n) (length-octets 4 v) in
     rw (e, octets-mod 4 v, octets-add 4 4 v, sets-append l four (octetsOf 4 (v / 256 ^ 4)) i, place) refl
+
+-- a number below 256 is its lowest octet, and the others are 0
+zero-octets : (n : ℕ) → octetsOf n 0 ≡ replicate n 0
+zero-octets zero = octets-zero 0
+zero-octets (suc n) = octets-suc n 0 ∙ ap (λ (t : List ℕ). 0 ∷ t) (zero-octets n)
+
+pub octets-small : (n v : ℕ) → v < 256 → octetsOf (suc n) v ≡ v ∷ replicate n 0
+octets-small n v h =
+    octets-suc n v
+    ∙ ap₂ (λ (a b : ℕ). a ∷ octetsOf n b) (mod-eq-of-lt h) (div-eq-of-lt h)
+    ∙ ap (λ (t : List ℕ). v ∷ t) (zero-octets n)

@@ -1,0 +1,61 @@
+-- What a request leaves, by its status: on a nonzero one the settings as before, on success its own effect.
+-- Assumes nothing.
+use mathlib.Core.Path.{_≡_, refl, ap, _∙_}
+use mathlib.Core.List.{List, []}
+use mathlib.Core.Bool.{Bool, true, false}
+use Prim.Native.Nat.{ℕ, suc, _/_}
+use native.Mathlib.Omega.{arith}
+use lib.ListN.{length}
+use lib.Seq.{length-take-le}
+use lib.Dec.{eqb·suc-zero}
+use Rattle.toeplitz.specs.Hash.{keyLength}
+use Rattle.messages.specs.Wire.{maxPayload, fieldSize, success, allFlags}
+use Rattle.messages.specs.Settings.{mappingOf}
+use Rattle.messages.specs.Requests.{Request, getFlags, setFlags, setKey, setMapping, none, flagsIn, keyIn, entriesIn, statusOf}
+use Rattle.messages.specs.Requests.{withFlags, withKey, withMapping, replaced, carriesFlags, flagsPayload, ackStored, carriedBy}
+use Rattle.messages.specs.declared.Mapping.{Mapping}
+use Rattle.messages.specs.Inner.{answered}
+use Rattle.messages.specs.declared.Settings.{Settings}
+
+-- only a success has flags in its ack
+pub flags-on-success : (r : Request) (status : ℕ) → carriesFlags r (suc status) ≡ false
+flags-on-success getFlags status = eqb·suc-zero status
+flags-on-success setFlags status = refl
+flags-on-success setKey status = refl
+flags-on-success setMapping status = refl
+flags-on-success none status = refl
+
+module _ (r : Request) (s : Settings) (n : ℕ) (p : List ℕ) where
+  pub carried-refused : (status : ℕ) → statusOf r (s .queues) n p ≡ suc status → answered s (suc status) ≡ carriedBy r s n p
+  unfolding carriedBy
+  carried-refused status e = rw (e, flags-on-success r status, eqb·suc-zero) refl
+
+  carried-done : statusOf r (s .queues) n p ≡ success → carriesFlags r success ≡ false → answered (replaced r s n p) success ≡ carriedBy r s n p
+  unfolding carriedBy
+  carried-done e f = rw (e, f) refl
+
+-- a get flags has no payload to look at
+pub no-payload : (s : Settings) (n : ℕ) (p : List ℕ) → carriedBy getFlags s n [] ≡ carriedBy getFlags s n p
+unfolding carriedBy statusOf replaced
+no-payload s n p = refl
+
+pub length-key : (p : List ℕ) → length p ≡ maxPayload → length (keyIn p) ≡ keyLength
+length-key p h = length-take-le keyLength p (omega arith)
+
+module _ (s : Settings) (n : ℕ) (p : List ℕ) where
+  pub carried-flags : statusOf getFlags (s .queues) n p ≡ success → record { settings = s; ack = ackStored (flagsPayload allFlags) } ≡ carriedBy getFlags s n p
+  unfolding carriedBy replaced
+  carried-flags e = rw e refl
+
+  pub flags-set : (flags : ℕ) → flags ≡ flagsIn p → statusOf setFlags (s .queues) n p ≡ success → answered (withFlags s flags) success ≡ carriedBy setFlags s n p
+  unfolding replaced
+  flags-set flags f e = ap (λ (x : ℕ). answered (withFlags s x) success) f ∙ carried-done setFlags s n p e refl
+
+  pub key-set : (key : List ℕ) → key ≡ keyIn p → statusOf setKey (s .queues) n p ≡ success → answered (withKey s key) success ≡ carriedBy setKey s n p
+  unfolding replaced
+  key-set key k e = ap (λ (x : List ℕ). answered (withKey s x) success) k ∙ carried-done setKey s n p e refl
+
+  pub mapping-set : (mapping : Mapping) → mapping ≡ mappingOf (entriesIn (n / fieldSize) p) → statusOf setMapping (s .queues) n p ≡ success
+      → answered (withMapping s mapping) success ≡ carriedBy setMapping s n p
+  unfolding replaced
+  mapping-set mapping m e = ap (λ (x : Mapping). answered (withMapping s x) success) m ∙ carried-done setMapping s n p e refl

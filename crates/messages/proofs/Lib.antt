@@ -1,0 +1,6 @@
+-- The laws behind the promises of `messages`, and the theorems over its definitions.
+pub mod Powers
+pub mod Tables
+pub mod AckOctets
+pub mod Statuses
+pub mod Effects

@@ -1,0 +1,78 @@
+-- Powers of two: `isPowerOfTwo` means what it says, and is told by n AND (n - 1).
+-- Assumes nothing.
+use mathlib.Core.Path.{_≡_, refl, sym, ap, _∙_}
+use mathlib.Core.Logic.{_↔_}
+use mathlib.Core.Bool.{Bool, true, false, cond, false≢true}
+use Prim.Native.Nat.{ℕ, zero, suc, _+_, _-_, _*_, _/_, _%_, _^_, min, _≤_, _<_}
+use native.Mathlib.Nat.{pow-suc, mod-self}
+use native.Mathlib.Omega.{arith}
+use lib.Arith.{bin-ind, lt-of-le-ne}
+use lib.Bits.{bitAnd, and-mask, and-step, and-self}
+use lib.Dec.{eqb}
+use borrow.Author.Tests.{eq-eqb, eqb-true, eqb-false}
+use Rattle.octets.proofs.Truth.{same-truth}
+use Rattle.messages.specs.Settings.{isPowerBelow, isPowerOfTwo}
+
+-- n is a power of two
+abbrev pub IsPower : ℕ → Type 0
+IsPower n = (k : ℕ) × (n ≡ 2 ^ k)
+
+below-power : (b n : ℕ) → isPowerBelow b n ≡ true → IsPower n
+unfolding isPowerBelow
+below-power zero n e = absurd (false≢true e)
+below-power (suc b) n e = by (below-power b n) (eqb n (2 ^ b)) refl e
+  where
+    by : (isPowerBelow b n ≡ true → IsPower n) → (t : Bool) → eqb n (2 ^ b) ≡ t → cond t true (isPowerBelow b n) ≡ true → IsPower n
+    by further true h e = (b, eqb-true _ _ h)
+    by further false h e = further e
+
+power-below : (b n k : ℕ) → k < b → n ≡ 2 ^ k → isPowerBelow b n ≡ true
+unfolding isPowerBelow
+power-below zero n k l e = absurd (omega arith)
+power-below (suc b) n k l e = by (λ h. power-below b n k h e) (eqb n (2 ^ b)) refl
+  where
+    by : (k < b → isPowerBelow b n ≡ true) → (t : Bool) → eqb n (2 ^ b) ≡ t → cond t true (isPowerBelow b n) ≡ true
+    by further true h = refl
+    by further false h =
+        let other : k ≡ b → ⊥ = λ q. eqb-false _ _ h (e ∙ ap (λ (i : ℕ). 2 ^ i) q) in
+        further (lt-of-le-ne (omega arith) other)
+
+exponent-less : (k : ℕ) → k < 2 ^ k
+exponent-less zero = omega arith
+exponent-less (suc k) =
+    let h : k < 2 ^ k = exponent-less k in
+    rw pow-suc (omega arith)
+
+pub power-exactly : (n : ℕ) → (isPowerOfTwo n ≡ true) ↔ IsPower n
+unfolding isPowerOfTwo
+power-exactly n = (below-power n n, λ p. power-below n n (p .0) (rw (p .1) (exponent-less (p .0))) (p .1))
+
+power-and : (n : ℕ) → IsPower n → bitAnd n (n - 1) ≡ 0
+power-and n (k, e) = rw (e, and-mask (2 ^ k) k) (mod-self (2 ^ k))
+
+-- n AND (n - 1) for an even n is that of its half, doubled; for an odd n it is n - 1
+and-half : (n : ℕ) → (0 < n / 2 → bitAnd (n / 2) (n / 2 - 1) ≡ 0 → IsPower (n / 2)) → 0 < n → bitAnd n (n - 1) ≡ 0 → IsPower n
+and-half n half l e = by (eqb (n % 2) 0) refl
+  where
+    top : bitAnd (n / 2) ((n - 1) / 2) ≡ 0
+    top =
+        let s = and-step n (n - 1) in
+        omega arith
+
+    by : (t : Bool) → eqb (n % 2) 0 ≡ t → IsPower n
+    by true h =
+        let even : n % 2 ≡ 0 = eqb-true _ _ h in
+        let less : (n - 1) / 2 ≡ n / 2 - 1 = omega arith in
+        let p = half (omega arith) (rw less at top) in
+        (suc (p .0), rw pow-suc (let q : n / 2 ≡ 2 ^ p .0 = p .1 in omega arith))
+    by false h =
+        let odd : n % 2 ≡ 0 → ⊥ = eqb-false _ _ h in
+        let same : (n - 1) / 2 ≡ n / 2 = omega arith in
+        let none : n / 2 ≡ 0 = sym (and-self (n / 2)) ∙ rw same at top in
+        (0, omega arith)
+
+and-power : (n : ℕ) → 0 < n → bitAnd n (n - 1) ≡ 0 → IsPower n
+and-power = bin-ind (λ (n : ℕ). 0 < n → bitAnd n (n - 1) ≡ 0 → IsPower n) (λ l. absurd (omega arith)) and-half
+
+pub power-told : (n : ℕ) → 0 < n → eqb (bitAnd n (n - 1)) 0 ≡ isPowerOfTwo n
+power-told n l = same-truth _ _ (λ h. power-exactly n .1 (and-power n l (eqb-true _ _ h))) (λ h. eq-eqb _ _ (power-and n (power-exactly n .0 h)))

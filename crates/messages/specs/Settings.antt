@@ -1,0 +1,57 @@
+-- The settings of an interface: what they are at setup, and what holds of them from then on.
+-- Assumes nothing.
+use mathlib.Core.Path.{_≡_}
+use mathlib.Core.List.{List, [], _∷_, _++_}
+use mathlib.Core.Bool.{Bool, true, false, cond, _&&_}
+use Prim.Native.Nat.{ℕ, zero, suc, _+_, _-_, _^_, _≤_, _<_}
+use lib.ListN.{length, getD, take, replicate}
+use lib.Dec.{eqb, leb}
+use Rattle.toeplitz.specs.Hash.{keyLength}
+use Rattle.messages.specs.Wire.{allFlags}
+use Rattle.messages.specs.declared.Mapping.{Mapping}
+use Rattle.messages.specs.declared.Settings.{Settings}
+
+-- the most queues in operation, and the most entries of a mapping
+abbrev pub maxQueues : ℕ
+maxQueues = 64
+
+abbrev pub maxEntries : ℕ
+maxEntries = 128
+
+-- whether n is 2 ^ k for a k below b; and for any k, which is below 2 ^ k
+unfoldable pub isPowerBelow : ℕ → ℕ → Bool
+isPowerBelow zero n = false
+isPowerBelow (suc b) n = cond (eqb n (2 ^ b)) true (isPowerBelow b n)
+
+unfoldable pub isPowerOfTwo : ℕ → Bool
+isPowerOfTwo n = isPowerBelow n n
+
+-- document 01's listed mapping lengths: 1, 2, 4, .. 128
+unfoldable pub isListed : ℕ → Bool
+isListed n = isPowerOfTwo n && leb n maxEntries
+
+-- each number of the list is below q
+abbrev pub EachBelow : ℕ → List ℕ → Type 0
+EachBelow q xs = (i : ℕ) → i < length xs → getD xs i 0 < q
+
+-- the table of a mapping, a list of queues; and the mapping that holds a table, with zeros behind it
+abbrev pub tableOf : Mapping → List ℕ
+tableOf m = take (m .count) (m .entries)
+
+abbrev pub mappingOf : List ℕ → Mapping
+mappingOf table = record { entries = table ++ replicate (maxEntries - length table) 0; count = length table }
+
+-- at setup: flags 0, key all zero, mapping of one entry, 0
+abbrev pub settingsAtSetup : ℕ → Settings
+settingsAtSetup queues =
+    record { queues = queues; flags = 0; key = replicate keyLength 0; mapping = mappingOf (0 ∷ []) }
+
+-- good settings: what holds from setup on
+pub record Good (s : Settings) : Type 0 where
+  pub some-queue : 1 ≤ s .queues
+  pub queues : s .queues ≤ maxQueues
+  pub flags : s .flags ≤ allFlags
+  pub key : length (s .key) ≡ keyLength
+  pub size : length (s .mapping .entries) ≡ maxEntries
+  pub listed : isListed (s .mapping .count) ≡ true
+  pub below : EachBelow (s .queues) (tableOf (s .mapping))

@@ -1,0 +1,86 @@
+// The host's side of the control messages: the settings of an interface, and requests judged and carried
+// out, each with its ack. The guest is not trusted: a request is judged whole before anything changes.
+mod acks;
+mod requests;
+mod table;
+
+ghost use mathlib.Core.Path.{_≡_};
+ghost use Rattle.messages.specs.Settings.{settingsAtSetup};
+pub use requests::carry_out;
+use toeplitz::KEY_LENGTH;
+
+// Message types: of the host's answer, and of the guest's requests.
+pub const ACK_TYPE: u32 = 1;
+
+pub const GET_FLAGS: u32 = 2;
+
+pub const SET_FLAGS: u32 = 3;
+
+pub const SET_KEY: u32 = 4;
+
+pub const SET_MAPPING: u32 = 5;
+
+// Octets of a header, and of a status, a flags value and a mapping entry.
+pub const HEADER: usize = 8;
+
+pub const FIELD: usize = 8;
+
+// The statuses of an ack.
+pub const SUCCESS: u8 = 0;
+
+pub const NOT_SUPPORTED: u8 = 1;
+
+pub const INVALID_PARAMETER: u8 = 2;
+
+pub const BUFFER_OVERFLOW: u8 = 3;
+
+// All flags that are supported; the largest flags value.
+pub const ALL_FLAGS: u8 = 15;
+
+pub const MAX_ENTRIES: usize = 128;
+
+// The most octets of a payload that are kept, and of an ack.
+pub const MAX_PAYLOAD: usize = 1024;
+
+pub const MAX_ACK: usize = 24;
+
+// A mapping table: the queue of each entry. Octets of the array behind the table are 0.
+pub struct Mapping {
+    pub entries: [u8; MAX_ENTRIES],
+    pub count: u8,
+}
+
+// The settings of an interface. The queue count is the host's; the guest's requests replace the others.
+pub struct Settings {
+    pub queues: u8,
+    pub flags: u8,
+    pub key: [u8; KEY_LENGTH],
+    pub mapping: Mapping,
+}
+
+// An ack: a message of `length` octets, and zeros behind it.
+pub struct Ack {
+    pub octets: [u8; MAX_ACK],
+    pub length: usize,
+}
+
+// What carrying out a request leaves.
+pub struct Carried {
+    pub settings: Settings,
+    pub ack: Ack,
+}
+
+// The settings of a new interface: no flags, a key of zeros, and a mapping of one entry, queue 0.
+pub fn at_setup(queues: u8) -> Settings
+    ensures { λ r. ⌜ r ≡ settingsAtSetup queues ⌝ }
+{
+    Settings {
+        queues,
+        flags: 0,
+        key: [0; KEY_LENGTH],
+        mapping: Mapping {
+            entries: [0; MAX_ENTRIES],
+            count: 1,
+        },
+    }
+}
