@@ -1,13 +1,17 @@
--- The octets of the two kinds of ack.
+-- The octets of the two kinds of ack, and the status in them.
 -- Assumes nothing.
 use mathlib.Core.Path.{_≡_, refl, sym, ap, _∙_}
-use mathlib.Core.List.{_∷_}
-use Prim.Native.Nat.{ℕ, _<_}
+use mathlib.Core.List.{List, [], _∷_, append-nil}
+use mathlib.Core.Bool.{Bool, true, false, cond, false≢true}
+use Prim.Native.Nat.{ℕ, _^_, _<_}
+use native.Mathlib.Omega.{arith}
 use lib.ListN.{set, replicate}
-use Rattle.octets.specs.Numbers.{octetsOf}
-use Rattle.octets.proofs.Numbers.{octets-small}
-use Rattle.messages.specs.Wire.{message, allFlags}
-use Rattle.messages.specs.Requests.{statusPayload, flagsPayload, maxAck, ackStored}
+use borrow.Author.Tests.{eqb-true}
+use Rattle.octets.specs.Numbers.{numberAt, octetsOf}
+use Rattle.octets.proofs.Numbers.{octets-small, number-octets}
+use Rattle.messages.specs.Wire.{fieldSize, header, message, success, allFlags}
+use Rattle.messages.specs.Requests.{Request, getFlags, setFlags, setKey, setMapping, none}
+use Rattle.messages.specs.Requests.{statusPayload, flagsPayload, carriesFlags, ackPayload, maxAck, ackStored}
 use Rattle.messages.specs.declared.Ack.{Ack}
 
 -- type 1 and the size, and the number in the octets from index i on, all else zeros
@@ -15,12 +19,28 @@ abbrev stored : ℕ → ℕ → ℕ → ℕ → Ack
 stored size i v n = record { octets = set (set (set (replicate maxAck 0) 0 1) 4 size) i v; length = n }
 
 low-stored : (status : ℕ) → stored 8 8 status 16 ≡ ackStored (status ∷ replicate 7 0)
-unfolding message octetsOf
+unfolding message header octetsOf
 low-stored status = refl
 
 pub status-stored : (status : ℕ) → status < 256 → stored 8 8 status 16 ≡ ackStored (statusPayload status)
 status-stored status h = low-stored status ∙ ap ackStored (sym (octets-small 7 status h))
 
 pub flags-stored : stored 16 16 allFlags 24 ≡ ackStored (flagsPayload allFlags)
-unfolding message octetsOf
+unfolding message header octetsOf
 flags-stored = refl
+
+-- only the ack of a get flags that succeeded has flags
+pub flags-success : (r : Request) (status : ℕ) → carriesFlags r status ≡ true → (r ≡ getFlags) × (status ≡ success)
+flags-success getFlags status e = (refl, eqb-true _ _ e)
+flags-success setFlags status e = absurd (false≢true e)
+flags-success setKey status e = absurd (false≢true e)
+flags-success setMapping status e = absurd (false≢true e)
+flags-success none status e = absurd (false≢true e)
+
+pub payload-status : (r : Request) (status : ℕ) → status < 256 ^ 8 → numberAt fieldSize (ackPayload r status) 0 ≡ status
+payload-status r status h = by (carriesFlags r status) refl
+  where
+    by : (t : Bool) → carriesFlags r status ≡ t → numberAt fieldSize (cond t (flagsPayload allFlags) (statusPayload status)) 0 ≡ status
+    by true e = number-octets fieldSize success (octetsOf fieldSize allFlags) (omega arith) ∙ sym (flags-success r status e .1)
+    by false e =
+        ap (λ (x : List ℕ). numberAt fieldSize x 0) (sym (append-nil (statusPayload status))) ∙ number-octets fieldSize status [] h

@@ -2,19 +2,19 @@
 -- Assumes nothing.
 use mathlib.Core.Path.{_≡_, refl, ap, _∙_}
 use mathlib.Core.List.{List, []}
-use mathlib.Core.Bool.{Bool, true, false}
+use mathlib.Core.Bool.{Bool, true, false, cond}
 use Prim.Native.Nat.{ℕ, suc, _/_}
 use native.Mathlib.Omega.{arith}
 use lib.ListN.{length}
 use lib.Seq.{length-take-le}
-use lib.Dec.{eqb·suc-zero}
+use lib.Dec.{eqb, eqb·suc-zero}
+use borrow.Author.Tests.{eq-eqb, ne-eqb, eqb-true}
 use Rattle.toeplitz.specs.Hash.{keyLength}
-use Rattle.messages.specs.Wire.{maxPayload, fieldSize, success, allFlags}
+use Rattle.messages.specs.Wire.{maxPayload, fieldSize, success}
 use Rattle.messages.specs.Settings.{mappingOf}
 use Rattle.messages.specs.Requests.{Request, getFlags, setFlags, setKey, setMapping, none, flagsIn, keyIn, entriesIn, statusOf}
-use Rattle.messages.specs.Requests.{withFlags, withKey, withMapping, replaced, carriesFlags, flagsPayload, ackStored, carriedBy}
+use Rattle.messages.specs.Requests.{withFlags, withKey, withMapping, replaced, carriesFlags, answered, answeredFlags, carriedBy}
 use Rattle.messages.specs.declared.Mapping.{Mapping}
-use Rattle.messages.specs.Inner.{answered}
 use Rattle.messages.specs.declared.Settings.{Settings}
 
 -- only a success has flags in its ack
@@ -34,6 +34,31 @@ module _ (r : Request) (s : Settings) (n : ℕ) (p : List ℕ) where
   unfolding carriedBy
   carried-done e f = rw (e, f) refl
 
+  pub settings-refused : (statusOf r (s .queues) n p ≡ success → ⊥) → carriedBy r s n p .settings ≡ s
+  unfolding carriedBy
+  settings-refused h = rw (ne-eqb _ _ h) refl
+
+  pub settings-done : statusOf r (s .queues) n p ≡ success → carriedBy r s n p .settings ≡ replaced r s n p
+  unfolding carriedBy
+  settings-done e = rw (eq-eqb _ _ e) refl
+
+  -- what holds of the settings before, and after a success, holds of those left
+  pub settings-either : (P : Settings → Type 0) → P s → (statusOf r (s .queues) n p ≡ success → P (replaced r s n p)) → P (carriedBy r s n p .settings)
+  unfolding carriedBy
+  settings-either P before after = by (eqb (statusOf r (s .queues) n p) success) refl
+    where
+      by : (t : Bool) → eqb (statusOf r (s .queues) n p) success ≡ t → P (cond t (replaced r s n p) s)
+      by true e = after (eqb-true _ _ e)
+      by false e = before
+
+pub replaced-queues : (r : Request) (s : Settings) (n : ℕ) (p : List ℕ) → replaced r s n p .queues ≡ s .queues
+unfolding replaced
+replaced-queues getFlags s n p = refl
+replaced-queues setFlags s n p = refl
+replaced-queues setKey s n p = refl
+replaced-queues setMapping s n p = refl
+replaced-queues none s n p = refl
+
 -- a get flags has no payload to look at
 pub no-payload : (s : Settings) (n : ℕ) (p : List ℕ) → carriedBy getFlags s n [] ≡ carriedBy getFlags s n p
 unfolding carriedBy statusOf replaced
@@ -43,7 +68,7 @@ pub length-key : (p : List ℕ) → length p ≡ maxPayload → length (keyIn p)
 length-key p h = length-take-le keyLength p (omega arith)
 
 module _ (s : Settings) (n : ℕ) (p : List ℕ) where
-  pub carried-flags : statusOf getFlags (s .queues) n p ≡ success → record { settings = s; ack = ackStored (flagsPayload allFlags) } ≡ carriedBy getFlags s n p
+  pub carried-flags : statusOf getFlags (s .queues) n p ≡ success → answeredFlags s ≡ carriedBy getFlags s n p
   unfolding carriedBy replaced
   carried-flags e = rw e refl
 

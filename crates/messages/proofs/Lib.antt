@@ -2,5 +2,10 @@
 pub mod Powers
 pub mod Tables
 pub mod AckOctets
+pub mod Checks
 pub mod Statuses
 pub mod Effects
+pub mod Looks
+pub mod Parts
+pub mod Goodness
+pub mod Theorems

@@ -2,13 +2,17 @@
 -- Assumes nothing.
 use mathlib.Core.Path.{_≡_, refl}
 use mathlib.Core.List.{List}
+use mathlib.Core.Logic.{_↔_}
 use mathlib.Core.Bool.{true, false}
 use Prim.Native.Nat.{ℕ, _/_, _%_, _≤_, _<_}
-use borrow.Author.Tests.{eq-eqb, ne-eqb, le-leb, lt-leb}
+use native.Mathlib.Omega.{arith}
+use lib.Dec.{eqb, leb}
+use borrow.Author.Tests.{eq-eqb, ne-eqb, eqb-true, le-leb, lt-leb, leb-true}
 use Rattle.toeplitz.specs.Hash.{keyLength}
 use Rattle.messages.specs.Wire.{fieldSize, success, notSupported, invalidParameter, bufferOverflow, allFlags}
 use Rattle.messages.specs.Settings.{maxEntries, isPowerOfTwo}
-use Rattle.messages.specs.Requests.{getFlags, setFlags, setKey, setMapping, none, flagsIn, entriesIn, allBelow, statusOf}
+use Rattle.messages.specs.Requests.{Request, getFlags, setFlags, setKey, setMapping, none, flagsIn, entriesIn, allBelow, statusOf}
+use Rattle.messages.proofs.Checks.{check-passed, check-most}
 
 module _ (q n : ℕ) (p : List ℕ) where
   pub get-flags-size : (n ≡ 0 → ⊥) → statusOf getFlags q n p ≡ invalidParameter
@@ -64,3 +68,48 @@ module _ (q n : ℕ) (p : List ℕ) where
   pub none-supported : statusOf none q n p ≡ notSupported
   unfolding statusOf
   none-supported = refl
+
+  -- when each request succeeds
+  pub get-flags-exactly : (statusOf getFlags q n p ≡ success) ↔ (n ≡ 0)
+  unfolding statusOf
+  get-flags-exactly = (λ e. eqb-true _ _ (check-passed (eqb n 0) _ _ e .0), get-flags-done)
+
+  pub set-flags-exactly : (statusOf setFlags q n p ≡ success) ↔ ((n ≡ fieldSize) × (flagsIn p ≤ allFlags))
+  unfolding statusOf
+  set-flags-exactly = (passed, λ x. set-flags-done (x .0) (x .1))
+    where
+      passed : statusOf setFlags q n p ≡ success → (n ≡ fieldSize) × (flagsIn p ≤ allFlags)
+      passed e =
+          let size = check-passed (eqb n fieldSize) _ _ e in
+          (eqb-true _ _ (size .0), leb-true _ _ (check-passed (leb (flagsIn p) allFlags) _ _ (size .1) .0))
+
+  pub set-key-exactly : (statusOf setKey q n p ≡ success) ↔ (n ≡ keyLength)
+  unfolding statusOf
+  set-key-exactly = (λ e. eqb-true _ _ (check-passed (eqb n keyLength) _ _ e .0), set-key-done)
+
+  pub set-mapping-exactly : (statusOf setMapping q n p ≡ success)
+      ↔ ((n % fieldSize ≡ 0) × (isPowerOfTwo (n / fieldSize) ≡ true) × (n / fieldSize ≤ maxEntries) × (allBelow q (entriesIn (n / fieldSize) p) ≡ true))
+  unfolding statusOf
+  set-mapping-exactly = (passed, λ x. set-mapping-done (x .0) (x .1) (x .2) (x .3))
+    where
+      passed : statusOf setMapping q n p ≡ success
+          → (n % fieldSize ≡ 0) × (isPowerOfTwo (n / fieldSize) ≡ true) × (n / fieldSize ≤ maxEntries) × (allBelow q (entriesIn (n / fieldSize) p) ≡ true)
+      passed e =
+          let size = check-passed (eqb (n % fieldSize) 0) _ _ e in
+          let power = check-passed (isPowerOfTwo (n / fieldSize)) _ _ (size .1) in
+          let few = check-passed (leb (n / fieldSize) maxEntries) _ _ (power .1) in
+          let below = check-passed (allBelow q (entriesIn (n / fieldSize) p)) _ _ (few .1) in
+          (eqb-true _ _ (size .0), power .0, leb-true _ _ (few .0), below .0)
+
+  -- no status is above 3
+  pub status-most : (r : Request) → statusOf r q n p ≤ bufferOverflow
+  unfolding statusOf
+  status-most getFlags = check-most (eqb n 0) _ _ _ (omega arith) (omega arith)
+  status-most setFlags = check-most (eqb n fieldSize) _ _ _ (omega arith) (check-most (leb (flagsIn p) allFlags) _ _ _ (omega arith) (omega arith))
+  status-most setKey = check-most (eqb n keyLength) _ _ _ (omega arith) (omega arith)
+  status-most setMapping =
+      check-most (eqb (n % fieldSize) 0) _ _ _ (omega arith)
+      (check-most (isPowerOfTwo (n / fieldSize)) _ _ _ (omega arith)
+      (check-most (leb (n / fieldSize) maxEntries) _ _ _ (omega arith)
+      (check-most (allBelow q (entriesIn (n / fieldSize) p)) _ _ _ (omega arith) (omega arith))))
+  status-most none = omega arith

@@ -5,14 +5,8 @@ use mathlib.Core.List.{List}
 use mathlib.Core.Bool.{true}
 use Prim.Native.Nat.{ℕ}
 use Rattle.messages.specs.Settings.{mappingOf}
-use Rattle.messages.specs.Requests.{entriesIn, allBelow, statusPayload, ackStored}
-use Rattle.messages.specs.declared.Settings.{Settings}
-use Rattle.messages.specs.declared.Carried.{Carried}
+use Rattle.messages.specs.Requests.{entriesIn, allBelow}
 use Rattle.messages.specs.declared.table.Built.{Built}
-
--- these settings, with the ack of a status
-abbrev pub answered : Settings → ℕ → Carried
-answered s status = record { settings = s; ack = ackStored (statusPayload status) }
 
 -- whether the first n entries of the payload are all below q, and if so the mapping of them
 pub record Builds (q n : ℕ) (p : List ℕ) (r : Built) : Type 0 where

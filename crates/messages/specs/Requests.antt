@@ -2,12 +2,12 @@
 -- Assumes nothing.
 use mathlib.Core.List.{List, [], _∷_, _++_}
 use mathlib.Core.Bool.{Bool, true, false, cond, _&&_}
-use Prim.Native.Nat.{ℕ, zero, suc, _+_, _-_, _*_, _/_, _%_}
+use Prim.Native.Nat.{ℕ, zero, suc, _-_, _/_, _%_}
 use lib.ListN.{length, take, drop, replicate}
 use lib.Dec.{eqb, leb, ltb}
 use Rattle.octets.specs.Numbers.{numberAt, octetsOf}
 use Rattle.toeplitz.specs.Hash.{keyLength}
-use Rattle.messages.specs.Wire.{fieldSize, message, ackType, getFlagsType, setFlagsType, setKeyType, setMappingType}
+use Rattle.messages.specs.Wire.{fieldSize, message, statusIn, ackType, getFlagsType, setFlagsType, setKeyType, setMappingType}
 use Rattle.messages.specs.Wire.{success, notSupported, invalidParameter, bufferOverflow, allFlags}
 use Rattle.messages.specs.Settings.{maxEntries, isPowerOfTwo, mappingOf}
 use Rattle.messages.specs.declared.Mapping.{Mapping}
@@ -108,6 +108,17 @@ ackStored payload =
 
 abbrev pub ackIn : Carried → List ℕ
 ackIn c = take (c .ack .length) (c .ack .octets)
+
+-- the status that a request is acked with
+abbrev pub ackStatus : Carried → ℕ
+ackStatus c = statusIn (ackIn c)
+
+-- settings with the ack of a status alone, and with the ack of a successful get flags
+abbrev pub answered : Settings → ℕ → Carried
+answered s status = record { settings = s; ack = ackStored (statusPayload status) }
+
+abbrev pub answeredFlags : Settings → Carried
+answeredFlags s = record { settings = s; ack = ackStored (flagsPayload allFlags) }
 
 -- a request carried out, and a message of a type, size and kept payload
 unfoldable pub carriedBy : Request → Settings → ℕ → List ℕ → Carried

@@ -3,7 +3,7 @@
 use mathlib.Core.Path.{_≡_}
 use mathlib.Core.List.{List, [], _∷_, _++_}
 use mathlib.Core.Bool.{Bool, true, false, cond, _&&_}
-use Prim.Native.Nat.{ℕ, zero, suc, _+_, _-_, _^_, _≤_, _<_}
+use Prim.Native.Nat.{ℕ, zero, suc, _-_, _^_, _≤_, _<_}
 use lib.ListN.{length, getD, take, replicate}
 use lib.Dec.{eqb, leb}
 use Rattle.toeplitz.specs.Hash.{keyLength}
@@ -46,12 +46,16 @@ abbrev pub settingsAtSetup : ℕ → Settings
 settingsAtSetup queues =
     record { queues = queues; flags = 0; key = replicate keyLength 0; mapping = mappingOf (0 ∷ []) }
 
+-- a good mapping under q queues: a listed number of entries, each below q
+pub record GoodMapping (q : ℕ) (m : Mapping) : Type 0 where
+  pub size : length (m .entries) ≡ maxEntries
+  pub listed : isListed (m .count) ≡ true
+  pub below : EachBelow q (tableOf m)
+
 -- good settings: what holds from setup on
 pub record Good (s : Settings) : Type 0 where
   pub some-queue : 1 ≤ s .queues
   pub queues : s .queues ≤ maxQueues
   pub flags : s .flags ≤ allFlags
   pub key : length (s .key) ≡ keyLength
-  pub size : length (s .mapping .entries) ≡ maxEntries
-  pub listed : isListed (s .mapping .count) ≡ true
-  pub below : EachBelow (s .queues) (tableOf (s .mapping))
+  pub mapping : GoodMapping (s .queues) (s .mapping)

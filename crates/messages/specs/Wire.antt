@@ -1,7 +1,7 @@
 -- Control messages as octets, as both ends write and read them.
 -- Assumes nothing.
 use mathlib.Core.List.{List, _++_}
-use Prim.Native.Nat.{ℕ}
+use Prim.Native.Nat.{ℕ, _+_}
 use lib.ListN.{length, drop}
 use Rattle.octets.specs.Numbers.{numberAt, octetsOf}
 
@@ -16,9 +16,12 @@ headerSize = 8
 abbrev pub fieldSize : ℕ
 fieldSize = 8
 
--- a message: type, size of the payload, payload
+-- a header: type, size of the payload; and a message
+unfoldable pub header : ℕ → ℕ → List ℕ
+header t size = octetsOf 4 t ++ octetsOf 4 size
+
 unfoldable pub message : ℕ → List ℕ → List ℕ
-message t payload = octetsOf 4 t ++ (octetsOf 4 (length payload) ++ payload)
+message t payload = header t (length payload) ++ payload
 
 -- what a header says, and what stands behind it
 abbrev pub typeIn : List ℕ → ℕ
@@ -29,6 +32,13 @@ sizeIn m = numberAt 4 m 4
 
 abbrev pub payloadIn : List ℕ → List ℕ
 payloadIn m = drop headerSize m
+
+-- the status in an ack, and the flags behind it
+abbrev pub statusIn : List ℕ → ℕ
+statusIn m = numberAt fieldSize m headerSize
+
+abbrev pub ackFlagsIn : List ℕ → ℕ
+ackFlagsIn m = numberAt fieldSize m (headerSize + fieldSize)
 
 -- the type of an ack, and those of the four requests
 abbrev pub ackType : ℕ

@@ -1,8 +1,8 @@
 -- `messages::requests::get_flags` meets its contract: the test picks the row of the table.
 -- Assumes nothing.
-use mathlib.Core.Path.{refl, _∙_}
+use mathlib.Core.Path.{_∙_}
 use borrow.Author.Needs.{needs}
-use Rattle.messages.specs.Requests.{getFlags, carriedBy}
+use Rattle.messages.specs.Requests.{getFlags}
 use Rattle.messages.proofs.Statuses.{get-flags-size, get-flags-done}
 use Rattle.messages.proofs.Effects.{carried-refused, carried-flags}
 use Rattle.messages.proofs.requests.get_flags.Statement.{statement}

@@ -1,0 +1,71 @@
+-- Good settings: at setup, and after each success.
+-- Assumes nothing.
+use mathlib.Core.Path.{_≡_, refl, sym, ap, _∙_, subst}
+use mathlib.Core.List.{List, [], _∷_}
+use mathlib.Core.Bool.{true}
+use Prim.Native.Nat.{ℕ, zero, suc, _+_, _-_, _/_, _≤_}
+use native.Mathlib.Omega.{arith}
+use lib.ListN.{length, length-append, length-replicate}
+use lib.Seq.{take-append-seam, length-take-le}
+use borrow.Author.Tests.{le-leb}
+use Rattle.toeplitz.specs.Hash.{keyLength}
+use Rattle.messages.specs.Wire.{fieldSize, success, allFlags}
+use Rattle.messages.specs.Settings.{maxEntries, isPowerOfTwo, isListed, EachBelow}
+use Rattle.messages.specs.Settings.{tableOf, mappingOf, GoodMapping, Good}
+use Rattle.messages.specs.Requests.{Request, getFlags, setFlags, setKey, setMapping, none, flagsIn, keyIn, entriesIn, statusOf}
+use Rattle.messages.specs.Requests.{withFlags, withKey, withMapping, replaced}
+use Rattle.messages.specs.declared.Mapping.{Mapping}
+use Rattle.messages.specs.declared.Settings.{Settings}
+use Rattle.messages.proofs.Tables.{length-entries, all-below-exactly}
+use Rattle.messages.proofs.Statuses.{set-flags-exactly, set-mapping-exactly}
+
+-- the mapping of a table holds it
+pub table-stored : (table : List ℕ) → tableOf (mappingOf table) ≡ table
+table-stored table = take-append-seam table _
+
+length-stored : (table : List ℕ) → length table ≤ maxEntries → length (mappingOf table .entries) ≡ maxEntries
+length-stored table h = length-append table _ ∙ ap (λ (n : ℕ). length table + n) (length-replicate (maxEntries - length table) 0) ∙ omega arith
+
+count-listed : (n : ℕ) → isPowerOfTwo n ≡ true → n ≤ maxEntries → isListed n ≡ true
+unfolding isListed
+count-listed n e l = rw (e, le-leb _ _ l) refl
+
+pub good-mapping : (q : ℕ) (table : List ℕ) → isPowerOfTwo (length table) ≡ true → length table ≤ maxEntries → EachBelow q table → GoodMapping q (mappingOf table)
+good-mapping q table e l h =
+    record { size = length-stored table l; listed = count-listed (length table) e l; below = subst (EachBelow q) (sym (table-stored table)) h }
+
+pub first-table : (q : ℕ) → 1 ≤ q → EachBelow q (0 ∷ [])
+first-table q some zero l = some
+first-table q some (suc i) l = absurd (omega arith)
+
+module _ (s : Settings) (n : ℕ) (p : List ℕ) (good : Good s) (whole : keyLength ≤ length p) where
+  with-flags : (flags : ℕ) → flags ≤ allFlags → Good (withFlags s flags)
+  with-flags flags l =
+      record { some-queue = good .some-queue; queues = good .queues; flags = l; key = good .key; mapping = good .mapping }
+
+  with-key : Good (withKey s (keyIn p))
+  with-key =
+      record {
+        some-queue = good .some-queue;
+        queues = good .queues;
+        flags = good .flags;
+        key = length-take-le keyLength p whole;
+        mapping = good .mapping;
+      }
+
+  with-mapping : (m : Mapping) → GoodMapping (s .queues) m → Good (withMapping s m)
+  with-mapping m g =
+      record { some-queue = good .some-queue; queues = good .queues; flags = good .flags; key = good .key; mapping = g }
+
+  pub good-replaced : (r : Request) → statusOf r (s .queues) n p ≡ success → Good (replaced r s n p)
+  unfolding replaced
+  good-replaced getFlags e = good
+  good-replaced setFlags e = with-flags (flagsIn p) (set-flags-exactly (s .queues) n p .0 e .1)
+  good-replaced setKey e = with-key
+  good-replaced setMapping e =
+      let table = entriesIn (n / fieldSize) p in
+      let long : length table ≡ n / fieldSize = length-entries (n / fieldSize) p in
+      let x = set-mapping-exactly (s .queues) n p .0 e in
+      with-mapping (mappingOf table)
+      (good-mapping (s .queues) table (rw long (x .1)) (rw long (x .2)) (all-below-exactly (s .queues) table .0 (x .3)))
+  good-replaced none e = good

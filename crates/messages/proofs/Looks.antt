@@ -1,0 +1,80 @@
+-- What of a payload a request looks at: the octets that its header counts, and none where it counts more than are kept.
+-- Assumes nothing.
+use mathlib.Core.Path.{_≡_, refl, sym, ap, _∙_}
+use mathlib.Core.List.{List}
+use mathlib.Core.Bool.{Bool, true, false, cond}
+use Prim.Native.Nat.{ℕ, _+_, _*_, _/_, _%_, _≤_, _<_}
+use native.Mathlib.Omega.{arith}
+use lib.ListN.{length, getD, take}
+use lib.Seq.{getD-take, ext-getD}
+use lib.Dec.{eqb, leb}
+use borrow.Author.Tests.{eqb-true, leb-true}
+use Rattle.octets.specs.Numbers.{numberAt}
+use Rattle.octets.proofs.Numbers.{number-same}
+use Rattle.toeplitz.specs.Hash.{keyLength}
+use Rattle.messages.specs.Wire.{maxPayload, fieldSize, success, invalidParameter, allFlags}
+use Rattle.messages.specs.Settings.{maxEntries, isPowerOfTwo, mappingOf}
+use Rattle.messages.specs.Requests.{Request, getFlags, setFlags, setKey, setMapping, none, flagsIn, keyIn, entriesIn, allBelow, check}
+use Rattle.messages.specs.Requests.{statusOf, withFlags, withKey, withMapping, replaced, carriedBy}
+use Rattle.messages.specs.declared.Settings.{Settings}
+use Rattle.messages.proofs.Checks.{check-same}
+use Rattle.messages.proofs.Statuses.{set-flags-exactly, set-key-exactly, set-mapping-exactly}
+use Rattle.messages.proofs.Tables.{length-entries, entry-at}
+
+module _ (n : ℕ) (p p′ : List ℕ) (same : take n p ≡ take n p′) where
+  octet-same : (i : ℕ) → i < n → getD p i 0 ≡ getD p′ i 0
+  octet-same i l = sym (getD-take n p i 0 l) ∙ ap (λ (x : List ℕ). getD x i 0) same ∙ getD-take n p′ i 0 l
+
+  field-same : (i : ℕ) → i + fieldSize ≤ n → numberAt fieldSize p i ≡ numberAt fieldSize p′ i
+  field-same i l = number-same fieldSize p p′ i i (λ k h. octet-same (i + k) (omega arith))
+
+  entries-same : (k : ℕ) → k * fieldSize ≤ n → entriesIn k p ≡ entriesIn k p′
+  entries-same k l = ext-getD 0 (entriesIn k p) (entriesIn k p′) (length-entries k p ∙ sym (length-entries k p′)) each
+    where
+      each : (i : ℕ) → i < length (entriesIn k p) → getD (entriesIn k p) i 0 ≡ getD (entriesIn k p′) i 0
+      each i h =
+          let b : i < k = rw length-entries at h in
+          entry-at k p i b ∙ field-same (i * fieldSize) (omega arith) ∙ sym (entry-at k p′ i b)
+
+cond-same : {A : Type 0} (t : Bool) (a b c : A) → (t ≡ true → a ≡ b) → cond t a c ≡ cond t b c
+cond-same true a b c h = h refl
+cond-same false a b c h = refl
+
+-- two payloads that agree as far as the header counts them, where they are kept at all
+module _ (s : Settings) (n : ℕ) (p p′ : List ℕ) (same : n ≤ maxPayload → take n p ≡ take n p′) where
+  flags-same : n ≡ fieldSize → flagsIn p ≡ flagsIn p′
+  flags-same e = field-same n p p′ (same (omega arith)) 0 (omega arith)
+
+  key-same : n ≡ keyLength → keyIn p ≡ keyIn p′
+  key-same e = rw e at (same (omega arith))
+
+  table-same : n % fieldSize ≡ 0 → n / fieldSize ≤ maxEntries → entriesIn (n / fieldSize) p ≡ entriesIn (n / fieldSize) p′
+  table-same m l = entries-same n p p′ (same (omega arith)) (n / fieldSize) (omega arith)
+
+  pub status-same : (r : Request) (q : ℕ) → statusOf r q n p ≡ statusOf r q n p′
+  unfolding statusOf
+  status-same getFlags q = refl
+  status-same setFlags q =
+      check-same (eqb n fieldSize) _ _ _ (λ t. ap (λ (f : ℕ). check (leb f allFlags) invalidParameter success) (flags-same (eqb-true _ _ t)))
+  status-same setKey q = refl
+  status-same setMapping q =
+      check-same (eqb (n % fieldSize) 0) _ _ _ (λ m. check-same (isPowerOfTwo (n / fieldSize)) _ _ _ (λ b. check-same (leb (n / fieldSize) maxEntries) _ _ _ (λ l.
+      ap (λ (e : List ℕ). check (allBelow q e) invalidParameter success) (table-same (eqb-true _ _ m) (leb-true _ _ l)))))
+  status-same none q = refl
+
+  replaced-same : (r : Request) → statusOf r (s .queues) n p ≡ success → replaced r s n p ≡ replaced r s n p′
+  unfolding replaced
+  replaced-same getFlags e = refl
+  replaced-same setFlags e = ap (withFlags s) (flags-same (set-flags-exactly (s .queues) n p .0 e .0))
+  replaced-same setKey e = ap (withKey s) (key-same (set-key-exactly (s .queues) n p .0 e))
+  replaced-same setMapping e =
+      let x = set-mapping-exactly (s .queues) n p .0 e in
+      ap (λ (t : List ℕ). withMapping s (mappingOf t)) (table-same (x .0) (x .2))
+  replaced-same none e = refl
+
+  pub carried-same : (r : Request) → carriedBy r s n p ≡ carriedBy r s n p′
+  unfolding carriedBy
+  carried-same r =
+      let settings : cond (eqb (statusOf r (s .queues) n p) success) (replaced r s n p) s ≡ cond (eqb (statusOf r (s .queues) n p) success) (replaced r s n p′) s =
+      cond-same (eqb (statusOf r (s .queues) n p) success) _ _ s (λ t. replaced-same r (eqb-true _ _ t)) in
+      rw (settings, status-same r (s .queues)) refl

@@ -1,0 +1,65 @@
+-- What readers ask of the host's messages, over the definitions alone. A contract says that the call answers what
+-- `carriedOut` says; these say what that means.
+-- Assumes nothing.
+use mathlib.Core.Path.{_≡_, refl, ap, _∙_}
+use mathlib.Core.List.{List, [], _∷_}
+use Prim.Native.Nat.{ℕ, _≤_, _<_}
+use native.Mathlib.Omega.{arith}
+use lib.ListN.{length, take}
+use lib.Seq.{take-append-seam}
+use Rattle.toeplitz.specs.Hash.{keyLength}
+use Rattle.messages.specs.Wire.{maxPayload, fieldSize, message, statusIn, ackType, success}
+use Rattle.messages.specs.Settings.{maxQueues, isPowerBelow, isPowerOfTwo, settingsAtSetup, Good}
+use Rattle.messages.specs.Requests.{requestOf, statusOf, ackPayload, ackIn, ackStatus, carriedBy, carriedOut}
+use Rattle.messages.specs.declared.Settings.{Settings}
+use Rattle.messages.proofs.Parts.{number-payload}
+use Rattle.messages.proofs.AckOctets.{payload-status}
+use Rattle.messages.proofs.Statuses.{status-most}
+use Rattle.messages.proofs.Effects.{settings-refused, settings-either, replaced-queues}
+use Rattle.messages.proofs.Goodness.{good-mapping, first-table, good-replaced}
+use Rattle.messages.proofs.Looks.{carried-same}
+
+module _ (s : Settings) (t n : ℕ) (p : List ℕ) where
+  -- the octets of the ack, and the status in it
+  pub ack-is : ackIn (carriedOut s t n p) ≡ message ackType (ackPayload (requestOf t) (statusOf (requestOf t) (s .queues) n p))
+  unfolding carriedBy
+  ack-is = take-append-seam _ _
+
+  pub ack-carries-status : ackStatus (carriedOut s t n p) ≡ statusOf (requestOf t) (s .queues) n p
+  ack-carries-status =
+      let r = requestOf t in
+      let status = statusOf r (s .queues) n p in
+      let small : status ≤ 3 = status-most (s .queues) n p r in
+      ap statusIn ack-is ∙ number-payload ackType (ackPayload r status) fieldSize 0 ∙ payload-status r status (omega arith)
+
+  -- demand 1: a request acked with a nonzero status leaves key, mapping and flags as they stood
+  pub refused-keeps-settings : (ackStatus (carriedOut s t n p) ≡ success → ⊥) → carriedOut s t n p .settings ≡ s
+  refused-keeps-settings h = settings-refused (requestOf t) s n p (λ e. h (ack-carries-status ∙ e))
+
+  -- no request changes the queue count
+  pub queues-stay : carriedOut s t n p .settings .queues ≡ s .queues
+  queues-stay = settings-either (requestOf t) s n p (λ (x : Settings). x .queues ≡ s .queues) refl (λ e. replaced-queues (requestOf t) s n p)
+
+  -- good settings stay good
+  pub good-stays-good : Good s → keyLength ≤ length p → Good (carriedOut s t n p .settings)
+  good-stays-good good whole = settings-either (requestOf t) s n p Good good (good-replaced s n p good whole (requestOf t))
+
+-- nothing beyond the size given by the header is looked at
+pub header-bounds-payload : (s : Settings) (t n : ℕ) (p p′ : List ℕ) → take n p ≡ take n p′ → carriedOut s t n p ≡ carriedOut s t n p′
+header-bounds-payload s t n p p′ h = carried-same s n p p′ (λ l. h) (requestOf t)
+
+-- a payload above 1,024 octets is dropped: the header alone decides
+pub header-alone : (s : Settings) (t n : ℕ) (p p′ : List ℕ) → maxPayload < n → carriedOut s t n p ≡ carriedOut s t n p′
+header-alone s t n p p′ h = carried-same s n p p′ (λ l. absurd (omega arith)) (requestOf t)
+
+-- a new interface's settings are good
+pub good-at-setup : (q : ℕ) → 1 ≤ q → q ≤ maxQueues → Good (settingsAtSetup q)
+unfolding isPowerOfTwo isPowerBelow
+good-at-setup q some most =
+    record {
+      some-queue = some;
+      queues = most;
+      flags = omega arith;
+      key = refl;
+      mapping = good-mapping q (0 ∷ []) refl (omega arith) (first-table q some);
+    }
