@@ -2,6 +2,7 @@
 pub mod Powers
 pub mod Tables
 pub mod AckOctets
+pub mod Types
 pub mod Checks
 pub mod Statuses
 pub mod Effects

@@ -28,6 +28,10 @@ size-header t n rest h =
     ∙ number-octets 4 n rest h)
 
 module _ (t : ℕ) (p : List ℕ) where
+  pub message-is : message t p ≡ header t (length p) ++ p
+  unfolding message
+  message-is = refl
+
   pub length-message : length (message t p) ≡ headerSize + length p
   unfolding message
   length-message = length-append (header t (length p)) p ∙ ap (λ (n : ℕ). n + length p) (length-header t (length p))

@@ -3,7 +3,7 @@
 use mathlib.Core.Path.{_≡_, refl, sym, ap, ap₂, _∙_}
 use mathlib.Core.List.{List, [], _∷_, _++_}
 use mathlib.Core.Logic.{_↔_}
-use mathlib.Core.Bool.{Bool, true, false, _&&_, false≢true}
+use mathlib.Core.Bool.{Bool, true, false}
 use Prim.Native.Nat.{ℕ, zero, suc, _+_, _-_, _*_, _≤_, _<_}
 use native.Mathlib.Nat.{zero-mul}
 use native.Mathlib.Omega.{arith}
@@ -13,6 +13,7 @@ use lib.Dec.{ltb}
 use borrow.Author.Tests.{lt-ltb, ltb-true}
 use Rattle.octets.specs.Numbers.{numberAt}
 use Rattle.octets.proofs.Numbers.{number-drop}
+use Rattle.octets.proofs.Truth.{both-true}
 use Rattle.messages.specs.Settings.{maxEntries, EachBelow, mappingOf}
 use Rattle.messages.specs.Requests.{entriesIn, allBelow}
 
@@ -40,22 +41,18 @@ entries-next (suc n) p =
     ∙ ap (λ (t : List ℕ). numberAt 8 p 0 ∷ t) (entries-next n (drop 8 p))
     ∙ ap (λ (x : ℕ). numberAt 8 p 0 ∷ entriesIn n (drop 8 p) ++ (x ∷ [])) (number-drop 8 8 p (n * 8) ∙ ap (λ (i : ℕ). numberAt 8 p i) place)
 
--- each number is below q exactly if the test says so
-both : (a b : Bool) → (a && b) ≡ true → (a ≡ true) × (b ≡ true)
-both true b e = (refl, e)
-both false b e = absurd (false≢true e)
-
 test-each : (q : ℕ) (xs : List ℕ) → allBelow q xs ≡ true → EachBelow q xs
 unfolding allBelow
 test-each q [] e i l = absurd (omega arith)
-test-each q (x ∷ xs) e zero l = ltb-true _ _ (both (ltb x q) (allBelow q xs) e .0)
-test-each q (x ∷ xs) e (suc i) l = test-each q xs (both (ltb x q) (allBelow q xs) e .1) i (omega arith)
+test-each q (x ∷ xs) e zero l = ltb-true _ _ (both-true (ltb x q) (allBelow q xs) .0 e .0)
+test-each q (x ∷ xs) e (suc i) l = test-each q xs (both-true (ltb x q) (allBelow q xs) .0 e .1) i (omega arith)
 
 each-test : (q : ℕ) (xs : List ℕ) → EachBelow q xs → allBelow q xs ≡ true
 unfolding allBelow
 each-test q [] h = refl
 each-test q (x ∷ xs) h = rw (lt-ltb _ _ (h 0 (omega arith))) (each-test q xs (λ i l. h (suc i) (omega arith)))
 
+-- each number is below q exactly if the test says so
 pub all-below-exactly : (q : ℕ) (xs : List ℕ) → (allBelow q xs ≡ true) ↔ EachBelow q xs
 all-below-exactly q xs = (test-each q xs, each-test q xs)
 
@@ -63,7 +60,7 @@ below-snoc : (q x : ℕ) (xs : List ℕ) → x < q → allBelow q xs ≡ true �
 unfolding allBelow
 below-snoc q x [] h a = rw (lt-ltb _ _ h) refl
 below-snoc q x (y ∷ xs) h a =
-    let b = both (ltb y q) (allBelow q xs) a in
+    let b = both-true (ltb y q) (allBelow q xs) .0 a in
     rw (b .0) (below-snoc q x xs h (b .1))
 
 -- with the first k entries below q: entry k is below it too, or it is not

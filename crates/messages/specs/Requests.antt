@@ -23,7 +23,7 @@ pub data Request : Type 0 where
   setMapping : Request
   none : Request
 
-abbrev pub requestOf : ℕ → Request
+unfoldable pub requestOf : ℕ → Request
 requestOf t =
     cond (eqb t getFlagsType) getFlags
     (cond (eqb t setFlagsType) setFlags (cond (eqb t setKeyType) setKey (cond (eqb t setMappingType) setMapping none)))

@@ -7,6 +7,7 @@ mod table;
 ghost use mathlib.Core.Path.{_≡_};
 ghost use Rattle.messages.specs.Settings.{settingsAtSetup};
 pub use requests::carry_out;
+pub use table::is_power_of_two;
 use toeplitz::KEY_LENGTH;
 
 // Message types: of the host's answer, and of the guest's requests.

@@ -7,7 +7,7 @@ use native.Mathlib.Nat.{add-zero, zero-add}
 use native.Mathlib.Numerals.{add-one}
 use native.Mathlib.Omega.{arith}
 use lib.ListN.{length, getD, set, take, drop, drop-of-length-le}
-use lib.Seq.{sets, paste-suc, take-all}
+use lib.Seq.{sets, sets-eq, paste-suc, take-all}
 
 pub copied-next : (d s e : List ℕ) (i : ℕ) → i < length d → i < length s → e ≡ take i s ++ drop i d
     → set e i (getD s i 0) ≡ take (i + 1) s ++ drop (i + 1) d
@@ -20,3 +20,9 @@ pub sets-append : (l xs ys : List ℕ) (i : ℕ) → sets l i (xs ++ ys) ≡ set
 sets-append l [] ys i = ap (λ (k : ℕ). sets l k ys) (sym (add-zero i))
 sets-append l (x ∷ xs) ys i =
     sets-append (set l i x) xs ys (suc i) ∙ ap (λ (k : ℕ). sets (sets (set l i x) (suc i) xs) k ys) (omega arith)
+
+-- stores over a whole list
+pub sets-all : (l vs : List ℕ) → length l ≡ length vs → sets l 0 vs ≡ vs
+sets-all l vs h =
+    let end : 0 + length vs ≡ length l = zero-add (length vs) ∙ sym h in
+    sets-eq vs l 0 (omega arith) ∙ rw (drop-of-length-le l {i = 0 + length vs} (omega arith)) (append-nil vs)

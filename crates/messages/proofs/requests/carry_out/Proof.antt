@@ -3,25 +3,30 @@
 use mathlib.Core.Path.{_∙_}
 use borrow.Author.Needs.{needs}
 use borrow.Author.Tests.{ne-eqb}
-use Rattle.messages.specs.Requests.{none}
+use Rattle.messages.specs.Requests.{none, requestOf}
 use Rattle.messages.proofs.Statuses.{none-supported}
 use Rattle.messages.proofs.Effects.{carried-refused, no-payload}
 use Rattle.messages.proofs.requests.carry_out.Statement.{statement}
 use Rattle.messages.proofs.requests.carry_out.Tie as tie
 
 returns : tie.Need-returns
+unfolding requestOf
 returns c = rw (c .before .if1 .taken) (c .get-flags .ensures ∙ no-payload _ _ _)
 
 returns-2 : tie.Need-returns-2
+unfolding requestOf
 returns-2 c = rw (c .before .before .if2 .taken) (c .set-flags .ensures)
 
 returns-3 : tie.Need-returns-3
+unfolding requestOf
 returns-3 c = rw (c .before .before .if3 .taken) (c .set-key .ensures)
 
 returns-4 : tie.Need-returns-4
+unfolding requestOf
 returns-4 c = rw (c .before .before .if4 .taken) (c .set-mapping .ensures)
 
 returns-5 : tie.Need-returns-5
+unfolding requestOf
 returns-5 c =
     let four = c .before in
     let three = four .before in

@@ -1,0 +1,17 @@
+-- `frontend::writer::write_header` meets its contract: the two stores are those of a header.
+-- Assumes nothing.
+use mathlib.Core.Path.{_∙_}
+use borrow.Author.Needs.{needs}
+use Rattle.frontend.proofs.Buffers.{header-put}
+use Rattle.frontend.proofs.writer.write_header.Statement.{statement}
+use Rattle.frontend.proofs.writer.write_header.Tie as tie
+
+returns : tie.Need-returns
+returns c =
+    let size = c .before .before in
+    let kind = size .before .before .before .before in
+    size .write-u322 .ensures ∙ header-put _ _ _ _ (kind .before .before .before .pre) (kind .write-u32 .ensures)
+
+pub write-header-spec : {M : Type 1} → statement M
+write-header-spec =
+    tie.close (tie.spec (λ c κs. search needs) (λ c κs. search needs) (λ c. search needs) returns)

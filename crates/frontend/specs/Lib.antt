@@ -1,0 +1,4 @@
+-- The definitions that the contracts of `frontend` cite, in the order of document 01.
+pub mod Refusals
+pub mod Reader
+pub mod Writer

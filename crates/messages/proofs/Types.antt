@@ -1,0 +1,28 @@
+-- The request of a type, case by case.
+-- Assumes nothing.
+use mathlib.Core.Path.{_≡_, refl}
+use mathlib.Core.Bool.{Bool, true, false, cond}
+use Prim.Native.Nat.{ℕ}
+use lib.Dec.{eqb}
+use borrow.Author.Tests.{eqb-true, eqb-false}
+use Rattle.messages.specs.Wire.{getFlagsType, setFlagsType, setKeyType, setMappingType}
+use Rattle.messages.specs.Requests.{Request, getFlags, setFlags, setKey, setMapping, none, requestOf}
+
+by-test : (P : Request → Type 0) (t k : ℕ) (r other : Request) → (t ≡ k → P r) → ((t ≡ k → ⊥) → P other) → P (cond (eqb t k) r other)
+by-test P t k r other is not = by (eqb t k) refl
+  where
+    by : (b : Bool) → eqb t k ≡ b → P (cond b r other)
+    by true e = is (eqb-true _ _ e)
+    by false e = not (eqb-false _ _ e)
+
+-- what holds of each request for its type, and of none for any other type, holds of the request of a type
+pub request-cases : (P : Request → Type 0) (t : ℕ)
+    → (t ≡ getFlagsType → P getFlags)
+    → (t ≡ setFlagsType → P setFlags)
+    → (t ≡ setKeyType → P setKey)
+    → (t ≡ setMappingType → P setMapping)
+    → ((t ≡ getFlagsType → ⊥) → (t ≡ setFlagsType → ⊥) → (t ≡ setKeyType → ⊥) → (t ≡ setMappingType → ⊥) → P none)
+    → P (requestOf t)
+unfolding requestOf
+request-cases P t two three four five other =
+    by-test P t getFlagsType _ _ two (λ n2. by-test P t setFlagsType _ _ three (λ n3. by-test P t setKeyType _ _ four (λ n4. by-test P t setMappingType _ _ five (λ n5. other n2 n3 n4 n5))))
