@@ -43,11 +43,11 @@ header-put t n b b′ h e =
     ∙ ap (λ (i : ℕ). header t n ++ drop i b) all
 
 -- a message that fits, and one that does not
-written-whole : (m b : List ℕ) → length m ≤ length b → record { answer = value (length m); buffer = m ++ drop (length m) b } ≡ written (value m) b
+pub written-whole : (m b : List ℕ) → length m ≤ length b → record { answer = value (length m); buffer = m ++ drop (length m) b } ≡ written (value m) b
 unfolding written
 written-whole m b h = rw (le-leb _ _ h) refl
 
-written-short : (m b : List ℕ) → length b < length m → record { answer = refused bufferTooShort; buffer = b } ≡ written (value m) b
+pub written-short : (m b : List ℕ) → length b < length m → record { answer = refused bufferTooShort; buffer = b } ≡ written (value m) b
 unfolding written
 written-short m b h = rw (lt-leb _ _ h) refl
 

@@ -1,12 +1,13 @@
 -- The guest's ack reader.
 -- Assumes nothing.
-use mathlib.Core.List.{List}
+use mathlib.Core.List.{List, _++_}
 use mathlib.Core.Bool.{Bool, true, cond, _&&_}
 use Prim.Native.Nat.{ℕ, _+_}
 use lib.ListN.{length}
 use lib.Dec.{eqb, leb}
+use Rattle.octets.specs.Numbers.{octetsOf}
 use Rattle.octets.specs.Outcome.{Outcome, value, refused}
-use Rattle.messages.specs.Wire.{headerSize, fieldSize, typeIn, sizeIn, statusIn, ackFlagsIn, ackType}
+use Rattle.messages.specs.Wire.{headerSize, fieldSize, message, typeIn, sizeIn, statusIn, ackFlagsIn, ackType}
 use Rattle.messages.specs.Wire.{success, notSupported, bufferOverflow, allFlags}
 use Rattle.messages.specs.Requests.{Request, getFlags, setFlags, setKey, setMapping, none, requestOf, carriesFlags}
 use Rattle.frontend.specs.Refusals.{notAnAck}
@@ -53,3 +54,12 @@ abbrev pub ackOutcomeOf : AckAnswer → Outcome Reading
 ackOutcomeOf (Status st) = value (status st)
 ackOutcomeOf (Flags flags) = value (statusAndFlags success flags)
 ackOutcomeOf Other = refused notAnAck
+
+-- what the host's ack to a request says, by its status
+abbrev pub answerTo : Request → ℕ → Reading
+answerTo r st = cond (carriesFlags r st) (statusAndFlags st allFlags) (status st)
+
+-- the one message that says this
+abbrev pub encoded : Reading → List ℕ
+encoded (status st) = message ackType (octetsOf fieldSize st)
+encoded (statusAndFlags st flags) = message ackType (octetsOf fieldSize st ++ octetsOf fieldSize flags)

@@ -1,14 +1,14 @@
 -- The octets of the two kinds of ack, and the status in them.
 -- Assumes nothing.
 use mathlib.Core.Path.{_≡_, refl, sym, ap, _∙_}
-use mathlib.Core.List.{List, [], _∷_, append-nil}
+use mathlib.Core.List.{_∷_}
 use mathlib.Core.Bool.{Bool, true, false, cond, false≢true}
 use Prim.Native.Nat.{ℕ, _^_, _<_}
 use native.Mathlib.Omega.{arith}
 use lib.ListN.{set, replicate}
 use borrow.Author.Tests.{eqb-true}
 use Rattle.octets.specs.Numbers.{numberAt, octetsOf}
-use Rattle.octets.proofs.Numbers.{octets-small, number-octets}
+use Rattle.octets.proofs.Numbers.{octets-small, number-octets, number-octets-alone}
 use Rattle.messages.specs.Wire.{fieldSize, header, message, success, allFlags}
 use Rattle.messages.specs.Requests.{Request, getFlags, setFlags, setKey, setMapping, none}
 use Rattle.messages.specs.Requests.{statusPayload, flagsPayload, carriesFlags, ackPayload, maxAck, ackStored}
@@ -42,5 +42,4 @@ payload-status r status h = by (carriesFlags r status) refl
   where
     by : (t : Bool) → carriesFlags r status ≡ t → numberAt fieldSize (cond t (flagsPayload allFlags) (statusPayload status)) 0 ≡ status
     by true e = number-octets fieldSize success (octetsOf fieldSize allFlags) (omega arith) ∙ sym (flags-success r status e .1)
-    by false e =
-        ap (λ (x : List ℕ). numberAt fieldSize x 0) (sym (append-nil (statusPayload status))) ∙ number-octets fieldSize status [] h
+    by false e = number-octets-alone fieldSize status h

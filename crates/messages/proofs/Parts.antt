@@ -3,10 +3,13 @@
 use mathlib.Core.Path.{_≡_, refl, sym, ap, _∙_}
 use mathlib.Core.List.{List, _++_, append-assoc}
 use Prim.Native.Nat.{ℕ, _+_, _^_, _<_}
-use lib.ListN.{length, length-append}
-use lib.Seq.{drop-at}
-use Rattle.octets.specs.Numbers.{numberAt, octetsOf}
-use Rattle.octets.proofs.Numbers.{length-octets, number-behind, number-octets}
+use native.Mathlib.Omega.{arith}
+use lib.ListN.{length, take, drop, length-append, length-drop, take-append-drop}
+use lib.Seq.{drop-at, take-add}
+use Rattle.octets.specs.Numbers.{AreOctets, numberAt, octetsOf}
+use Rattle.octets.proofs.Numbers.{length-octets, number-behind, number-octets, octets-number}
+use Rattle.messages.specs.Requests.{carriedOut, carriedMessage}
+use Rattle.messages.specs.declared.Settings.{Settings}
 use Rattle.messages.specs.Wire.{headerSize, header, message, typeIn, sizeIn, payloadIn}
 
 pub length-header : (t n : ℕ) → length (header t n) ≡ headerSize
@@ -45,3 +48,19 @@ module _ (t : ℕ) (p : List ℕ) where
   number-payload k i =
       ap (λ (n : ℕ). numberAt k (header t (length p) ++ p) (n + i)) (sym (length-header t (length p)))
       ∙ number-behind k (header t (length p)) p i
+
+-- octets as long as their header says are the message of its type and payload
+pub message-back : (m : List ℕ) → AreOctets m → length m ≡ headerSize + sizeIn m → m ≡ message (typeIn m) (payloadIn m)
+unfolding message header
+message-back m o long =
+    let type : octetsOf 4 (typeIn m) ≡ take 4 m = octets-number 4 m 0 o (omega arith) in
+    let size : octetsOf 4 (sizeIn m) ≡ take 4 (drop 4 m) = octets-number 4 m 4 o (omega arith) in
+    let rest : length (payloadIn m) ≡ sizeIn m = length-drop headerSize m ∙ omega arith in
+    let front : take headerSize m ≡ octetsOf 4 (typeIn m) ++ octetsOf 4 (length (payloadIn m)) = take-add 4 4 m ∙ rw (type, rest, size) refl in
+    sym (take-append-drop headerSize m) ∙ ap (λ (x : List ℕ). x ++ payloadIn m) front
+
+-- carrying out a message takes its own type, size and payload
+pub carried-message : (s : Settings) (t : ℕ) (p rest : List ℕ) → t < 256 ^ 4 → length p < 256 ^ 4 → carriedMessage s (message t p) rest ≡ carriedOut s t (length p) (p ++ rest)
+unfolding message
+carried-message s t p rest h l =
+    rw (type-header t (length p) p h, size-header t (length p) p l, payload-message t p) refl

@@ -3,14 +3,15 @@
 -- Assumes nothing.
 use mathlib.Core.Path.{_≡_, refl, ap, _∙_}
 use mathlib.Core.List.{List, [], _∷_}
-use Prim.Native.Nat.{ℕ, _≤_, _<_}
+use Prim.Native.Nat.{ℕ, _^_, _≤_, _<_}
 use native.Mathlib.Omega.{arith}
 use lib.ListN.{length, take}
 use lib.Seq.{take-append-seam}
+use Rattle.octets.proofs.Numbers.{number-octets-alone}
 use Rattle.toeplitz.specs.Hash.{keyLength}
 use Rattle.messages.specs.Wire.{maxPayload, fieldSize, message, statusIn, ackType, success}
 use Rattle.messages.specs.Settings.{maxQueues, isPowerBelow, isPowerOfTwo, settingsAtSetup, Good}
-use Rattle.messages.specs.Requests.{requestOf, statusOf, ackPayload, ackIn, ackStatus, carriedBy, carriedOut}
+use Rattle.messages.specs.Requests.{requestOf, statusOf, statusPayload, ackPayload, ackIn, ackStatus, answered, carriedBy, carriedOut}
 use Rattle.messages.specs.declared.Settings.{Settings}
 use Rattle.messages.proofs.Parts.{number-payload}
 use Rattle.messages.proofs.AckOctets.{payload-status}
@@ -43,6 +44,12 @@ module _ (s : Settings) (t n : ℕ) (p : List ℕ) where
   -- good settings stay good
   pub good-stays-good : Good s → keyLength ≤ length p → Good (carriedOut s t n p .settings)
   good-stays-good good whole = settings-either (requestOf t) s n p Good good (good-replaced s n p good whole (requestOf t))
+
+-- the status of an answer is the one in its ack
+pub answered-status : (s : Settings) (status : ℕ) → status < 256 ^ fieldSize → ackStatus (answered s status) ≡ status
+answered-status s status h =
+    let p = statusPayload status in
+    ap statusIn (take-append-seam (message ackType p) _) ∙ number-payload ackType p fieldSize 0 ∙ number-octets-alone fieldSize status h
 
 -- nothing beyond the size given by the header is looked at
 pub header-bounds-payload : (s : Settings) (t n : ℕ) (p p′ : List ℕ) → take n p ≡ take n p′ → carriedOut s t n p ≡ carriedOut s t n p′

@@ -7,7 +7,7 @@ use lib.ListN.{length, take, drop, replicate}
 use lib.Dec.{eqb, leb, ltb}
 use Rattle.octets.specs.Numbers.{numberAt, octetsOf}
 use Rattle.toeplitz.specs.Hash.{keyLength}
-use Rattle.messages.specs.Wire.{fieldSize, message, statusIn, ackType, getFlagsType, setFlagsType, setKeyType, setMappingType}
+use Rattle.messages.specs.Wire.{fieldSize, message, typeIn, sizeIn, payloadIn, statusIn, ackType, getFlagsType, setFlagsType, setKeyType, setMappingType}
 use Rattle.messages.specs.Wire.{success, notSupported, invalidParameter, bufferOverflow, allFlags}
 use Rattle.messages.specs.Settings.{maxEntries, isPowerOfTwo, mappingOf}
 use Rattle.messages.specs.declared.Mapping.{Mapping}
@@ -128,3 +128,7 @@ carriedBy r s n p =
 
 abbrev pub carriedOut : Settings → ℕ → ℕ → List ℕ → Carried
 carriedOut s t n p = carriedBy (requestOf t) s n p
+
+-- a message carried out as it stands, whatever octets are kept behind it
+abbrev pub carriedMessage : Settings → List ℕ → List ℕ → Carried
+carriedMessage s m rest = carriedOut s (typeIn m) (sizeIn m) (payloadIn m ++ rest)

@@ -2,7 +2,7 @@
 -- was read; and where in a list the octets stand.
 -- Assumes nothing.
 use mathlib.Core.Path.{_≡_, refl, sym, ap, ap₂, _∙_}
-use mathlib.Core.List.{List, [], _∷_, _++_}
+use mathlib.Core.List.{List, [], _∷_, _++_, append-nil}
 use Prim.Native.Nat.{ℕ, zero, suc, _+_, _*_, _/_, _%_, _^_, _≤_, _<_}
 use native.Mathlib.Nat.{add-zero, suc-add, zero-add, add-assoc, one-mul, mul-add, mul-assoc, pow-suc, pow-succ', div-one, div-div-eq-div-mul, div-lt-iff-lt-mul, mod-lt, mod-eq-of-lt, div-eq-of-lt, mod-add-div, pow-le-pow-right}
 use native.Mathlib.Omega.{arith}
@@ -93,6 +93,9 @@ number-octets (suc n) v rest h =
     rw octets-suc (number-suc n (v % 256 ∷ octetsOf n (v / 256) ++ rest) 0)
     ∙ ap (λ (x : ℕ). v % 256 + 256 * x) (number-behind n (v % 256 ∷ []) (octetsOf n (v / 256) ++ rest) 0 ∙ number-octets n (v / 256) rest less)
     ∙ mod-add-div v 256
+
+pub number-octets-alone : (n v : ℕ) → v < 256 ^ n → numberAt n (octetsOf n v) 0 ≡ v
+number-octets-alone n v h = ap (λ (x : List ℕ). numberAt n x 0) (sym (append-nil (octetsOf n v))) ∙ number-octets n v [] h
 
 -- what is read is written back
 pub octets-number : (n : ℕ) (xs : List ℕ) (i : ℕ) → AreOctets xs → i + n ≤ length xs → octetsOf n (numberAt n xs i) ≡ take n (drop i xs)
