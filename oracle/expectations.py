@@ -7,10 +7,11 @@
 import pathlib
 import sys
 
+import messages_cases
 import toeplitz_cases
 
 CRATES = pathlib.Path(__file__).resolve().parent.parent / "crates"
-PARTS = [toeplitz_cases]
+PARTS = [toeplitz_cases, messages_cases]
 
 
 def main(words):

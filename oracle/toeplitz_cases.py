@@ -4,10 +4,10 @@ Each case is (kind, first part, second part). The program `hash_vectors` runs th
 a head of three octets, the kind and the lengths of the two parts, and then the parts.
 """
 
-import hashlib
 import ipaddress
 
 import toeplitz
+from seeds import seeded
 
 HASH, TWO_WAY, HASH_PROGRAM, TWO_WAY_PROGRAM = range(4)
 
@@ -54,11 +54,6 @@ WORKED_TWO_WAYS = [
     (SPARSE_KEY, 2, ("no", 95)),
     (COUNTING_KEY, 0, ("no", 0)),
 ] + [(ZERO_KEY, t, ("yes", None)) for t in range(4)]
-
-
-def seeded(name, length):
-    """Octets that depend on a name alone, the same on every machine."""
-    return hashlib.shake_128(name.encode()).digest(length)
 
 
 def ends(vector):

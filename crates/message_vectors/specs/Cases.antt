@@ -1,0 +1,10 @@
+-- Where the body of a case stands.
+-- Assumes nothing.
+use Prim.Native.Nat.{ℕ, _≤_, _<_}
+use Rattle.message_vectors.specs.declared.Case.{Case}
+use Rattle.message_vectors.specs.declared.Case.the-variants.{Body, Cut}
+
+-- behind the place where the case begins, and within the length of all
+abbrev pub Within : ℕ → ℕ → Case → Type 0
+Within n at (Body start end) = (at < start) × (start ≤ end) × (end ≤ n)
+Within n at Cut = Unit {0}

@@ -1,0 +1,234 @@
+// Runs the cases of the file `cases` and prints a line for each. A case is its kind, an octet, the length of
+// its body, two octets, and the body. Cases of requests act on one interface after the other.
+ghost use Prim.Native.Nat.{_*_, _≤_, _<_};
+ghost use lib.ListN.{length};
+ghost use Rattle.message_vectors.specs.Cases.{Within};
+
+mod answers;
+
+use answers::print_ack_answer;
+use answers::print_carried;
+use answers::print_written;
+use frontend::Written;
+use libc::STDOUT_FILENO;
+use messages::MAX_PAYLOAD;
+use messages::Settings;
+
+// Where a case's body stands and ends; or a case cut short.
+enum Case {
+    Body { start: usize, end: usize },
+    Cut,
+}
+
+// The kinds: a new interface with a queue count, a request carried out, the writer's four calls, and an ack
+// read.
+const SET_UP: u8 = 0;
+
+const REQUEST: u8 = 1;
+
+const WRITE_GET_FLAGS: u8 = 2;
+
+const WRITE_SET_FLAGS: u8 = 3;
+
+const WRITE_SET_KEY: u8 = 4;
+
+const WRITE_SET_MAPPING: u8 = 5;
+
+// The longest output buffer of a case.
+const MAX_BUFFER: usize = 1100;
+
+// The most entries that a case gives the writer.
+const MAX_GIVEN: usize = 256;
+
+fn main() {
+    let name = b"cases";
+    let file = os::open_read(name);
+    if file < 0 {
+        os::fail(name);
+        return;
+    }
+    let mut buffer = io::large_buffer();
+    let n = io::read_full(file, &mut buffer);
+    libc::close(file);
+    run(&buffer[..n]);
+}
+
+fn run(cases: &[u8]) {
+    let mut settings = messages::at_setup(1);
+    let mut at: usize = 0;
+    while at < cases.len() {
+        let case = case_at(cases, at);
+        match case {
+            Case::Body { start, end } => {
+                settings = answer(settings, cases[at], &cases[start..end]);
+                at = end;
+            }
+            Case::Cut => {
+                print(b"cut\n");
+                return;
+            }
+        }
+    }
+}
+
+fn print(octets: &[u8]) {
+    io::write_all(STDOUT_FILENO, octets);
+}
+
+fn case_at(cases: &[u8], at: usize) -> Case
+    ensures { λ r. ⌜ Within (length (now (cases .entry))) at r ⌝ }
+{
+    if cases.len() < 3 {
+        return Case::Cut;
+    }
+    if cases.len() - 3 < at {
+        return Case::Cut;
+    }
+    let start = at + 3;
+    let n = wide(cases[at + 1]) + 256 * wide(cases[at + 2]);
+    if cases.len() - start < n {
+        return Case::Cut;
+    }
+    Case::Body {
+        start,
+        end: start + n,
+    }
+}
+
+fn wide(x: u8) -> usize
+    ensures { λ r. ⌜ r < 256 ⌝ }
+{
+    x as usize
+}
+
+// Answers one case, and hands back the settings that it leaves.
+fn answer(settings: Settings, kind: u8, body: &[u8]) -> Settings {
+    if kind == SET_UP {
+        return set_up(settings, body);
+    }
+    if kind == REQUEST {
+        return request(settings, body);
+    }
+    if body.len() < 2 {
+        print(b"cut\n");
+        return settings;
+    }
+    if kind <= WRITE_SET_MAPPING {
+        write(kind, body);
+    } else {
+        read(body);
+    }
+    settings
+}
+
+fn set_up(settings: Settings, body: &[u8]) -> Settings {
+    if body.len() < 1 {
+        return settings;
+    }
+    messages::at_setup(body[0])
+}
+
+// Type, size and kept payload. What stands behind the payload in the buffer is not to be looked at.
+fn request(settings: Settings, body: &[u8]) -> Settings {
+    if body.len() < 8 {
+        return settings;
+    }
+    if body.len() - 8 > MAX_PAYLOAD {
+        return settings;
+    }
+    let payload = payload_of(&body[8..]);
+    let carried = messages::carry_out(
+        settings,
+        octets::read_u32(body, 0),
+        octets::read_u32(body, 4),
+        payload,
+    );
+    print_carried(carried);
+    carried.settings
+}
+
+fn payload_of(kept: &[u8]) -> [u8; MAX_PAYLOAD]
+    requires { ⌜ length (now kept) ≤ 1024 ⌝ }
+{
+    let mut payload = [238u8; MAX_PAYLOAD];
+    let mut i: usize = 0;
+    while i < kept.len() {
+        payload[i] = kept[i];
+        i += 1;
+    }
+    payload
+}
+
+// The length of the output buffer, and what the request is to say.
+fn write(kind: u8, body: &[u8])
+    requires { ⌜ 2 ≤ length (now body) ⌝ }
+{
+    let room = wide(body[0]) + 256 * wide(body[1]);
+    if room > MAX_BUFFER {
+        print(b"cut\n");
+        return;
+    }
+    let mut buffer = [165u8; MAX_BUFFER];
+    write_start(&mut buffer, room, kind, &body[2..]);
+}
+
+// Writes into the first `room` octets of the buffer.
+fn write_start(buffer: &mut [u8], room: usize, kind: u8, given: &[u8])
+    requires { ⌜ room ≤ length (now buffer) ⌝ }
+{
+    let written = write_into(&mut buffer[0..room], kind, given);
+    print_written(written, &buffer[0..room]);
+}
+
+fn write_into(buffer: &mut [u8], kind: u8, given: &[u8]) -> Written {
+    if kind == WRITE_GET_FLAGS {
+        return frontend::write_get_flags(buffer);
+    }
+    if kind == WRITE_SET_KEY {
+        return frontend::write_set_key(buffer, given);
+    }
+    if kind == WRITE_SET_MAPPING {
+        return write_mapping(buffer, given);
+    }
+    if given.len() < 8 {
+        return Written::Value;
+    }
+    frontend::write_set_flags(buffer, octets::read_u64(given, 0))
+}
+
+fn write_mapping(buffer: &mut [u8], given: &[u8]) -> Written {
+    let count = given.len() / 8;
+    if count > MAX_GIVEN {
+        return Written::Value;
+    }
+    let entries = entries_in(given, count);
+    write_first(buffer, &entries, count)
+}
+
+// The mapping of the first `count` entries.
+fn write_first(buffer: &mut [u8], entries: &[u64], count: usize) -> Written
+    requires { ⌜ count ≤ length (now entries) ⌝ }
+{
+    frontend::write_set_mapping(buffer, &entries[0..count])
+}
+
+fn entries_in(given: &[u8], count: usize) -> [u64; MAX_GIVEN]
+    requires { ⌜ (count * 8 ≤ length (now given)) × (count ≤ 256) ⌝ }
+{
+    let mut entries = [0u64; MAX_GIVEN];
+    let mut k: usize = 0;
+    while k < count {
+        entries[k] = octets::read_u64(given, k * 8);
+        k += 1;
+    }
+    entries
+}
+
+// The type of the request, and the message to read.
+fn read(body: &[u8]) {
+    if body.len() < 4 {
+        print(b"cut\n");
+        return;
+    }
+    print_ack_answer(frontend::read_ack(octets::read_u32(body, 0), &body[4..]));
+}
