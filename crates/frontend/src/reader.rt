@@ -12,6 +12,7 @@ use messages::GET_FLAGS;
 use messages::HEADER;
 use messages::NOT_SUPPORTED;
 use messages::SET_MAPPING;
+use messages::SIZE_AT;
 use messages::SUCCESS;
 
 // Reads the ack to a request of type `kind`.
@@ -24,7 +25,7 @@ pub fn read_ack(kind: u32, message: &[u8]) -> AckAnswer
     if octets::read_u32(message, 0) != ACK_TYPE {
         return AckAnswer::Other;
     }
-    let size = octets::read_u32(message, 4) as usize;
+    let size = octets::read_u32(message, SIZE_AT) as usize;
     if message.len() - HEADER != size {
         return AckAnswer::Other;
     }

@@ -16,6 +16,7 @@ use messages::MAX_ENTRIES;
 use messages::SET_FLAGS;
 use messages::SET_KEY;
 use messages::SET_MAPPING;
+use messages::SIZE_AT;
 use toeplitz::KEY_LENGTH;
 
 // Asks which flags the host supports.
@@ -40,7 +41,7 @@ pub fn write_set_flags(buffer: &mut [u8], flags: u64) -> Written
     if buffer.len() < length {
         return Written::Buffer;
     }
-    write_header(buffer, SET_FLAGS, 8);
+    write_header(buffer, SET_FLAGS, FIELD as u32);
     octets::write_u64(&mut buffer[HEADER..length], 0, flags);
     Written::Length(length)
 }
@@ -56,7 +57,7 @@ pub fn write_set_key(buffer: &mut [u8], key: &[u8]) -> Written
     if buffer.len() < length {
         return Written::Buffer;
     }
-    write_header(buffer, SET_KEY, 40);
+    write_header(buffer, SET_KEY, KEY_LENGTH as u32);
     octets::copy(&mut buffer[HEADER..length], key);
     Written::Length(length)
 }
@@ -94,7 +95,7 @@ fn write_header(buffer: &mut [u8], kind: u32, size: u32)
     ensures { λ _. ⌜ now (buffer .exit) ≡ header kind size ++ drop headerSize (now (buffer .entry)) ⌝ }
 {
     octets::write_u32(buffer, 0, kind);
-    octets::write_u32(buffer, 4, size);
+    octets::write_u32(buffer, SIZE_AT, size);
 }
 
 // Writes each number into eight octets of the part, one after the other.

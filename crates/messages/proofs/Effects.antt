@@ -4,13 +4,9 @@ use mathlib.Core.Path.{_≡_, refl, ap, _∙_}
 use mathlib.Core.List.{List, []}
 use mathlib.Core.Bool.{Bool, true, false, cond}
 use Prim.Native.Nat.{ℕ, suc, _/_}
-use native.Mathlib.Omega.{arith}
-use lib.ListN.{length}
-use lib.Seq.{length-take-le}
 use lib.Dec.{eqb, eqb·suc-zero}
 use borrow.Author.Tests.{eq-eqb, ne-eqb, eqb-true}
-use Rattle.toeplitz.specs.Hash.{keyLength}
-use Rattle.messages.specs.Wire.{maxPayload, fieldSize, success}
+use Rattle.messages.specs.Wire.{fieldSize, success}
 use Rattle.messages.specs.Settings.{mappingOf}
 use Rattle.messages.specs.Requests.{Request, getFlags, setFlags, setKey, setMapping, none, flagsIn, keyIn, entriesIn, statusOf}
 use Rattle.messages.specs.Requests.{withFlags, withKey, withMapping, replaced, carriesFlags, answered, answeredFlags, carriedBy}
@@ -63,9 +59,6 @@ replaced-queues none s n p = refl
 pub no-payload : (s : Settings) (n : ℕ) (p : List ℕ) → carriedBy getFlags s n [] ≡ carriedBy getFlags s n p
 unfolding carriedBy statusOf replaced
 no-payload s n p = refl
-
-pub length-key : (p : List ℕ) → length p ≡ maxPayload → length (keyIn p) ≡ keyLength
-length-key p h = length-take-le keyLength p (omega arith)
 
 module _ (s : Settings) (n : ℕ) (p : List ℕ) where
   pub carried-flags : statusOf getFlags (s .queues) n p ≡ success → answeredFlags s ≡ carriedBy getFlags s n p

@@ -21,10 +21,13 @@ pub const SET_KEY: u32 = 4;
 
 pub const SET_MAPPING: u32 = 5;
 
-// Octets of a header, and of a status, a flags value and a mapping entry.
+// Octets of a header, and of a field: a status, a flags value or a mapping entry. And where in a header the
+// size stands.
 pub const HEADER: usize = 8;
 
 pub const FIELD: usize = 8;
+
+pub const SIZE_AT: usize = 4;
 
 // The statuses of an ack.
 pub const SUCCESS: u8 = 0;

@@ -22,6 +22,13 @@ use crate::acks;
 use crate::table;
 use toeplitz::KEY_LENGTH;
 
+// Sizes as a header gives them.
+const FIELD_SIZE: u32 = FIELD as u32;
+
+const KEY_SIZE: u32 = KEY_LENGTH as u32;
+
+const MOST_ENTRIES: u32 = MAX_ENTRIES as u32;
+
 // Carries out the message of type `kind` with `size` octets of payload, of which the first 1,024 are kept.
 pub fn carry_out(settings: Settings, kind: u32, size: u32, payload: [u8; MAX_PAYLOAD]) -> Carried
     ensures { λ r. ⌜ r ≡ carriedOut settings kind size payload ⌝ }
@@ -67,7 +74,7 @@ fn set_flags(settings: Settings, size: u32, payload: &[u8]) -> Carried
     requires { ⌜ length (now payload) ≡ maxPayload ⌝ }
     ensures { λ r. ⌜ r ≡ carriedBy setFlags settings size (now (payload .entry)) ⌝ }
 {
-    if size != 8 {
+    if size != FIELD_SIZE {
         return answer(settings, INVALID_PARAMETER);
     }
     let flags = octets::read_u64(payload, 0);
@@ -83,11 +90,11 @@ fn set_key(settings: Settings, size: u32, payload: &[u8]) -> Carried
     requires { ⌜ length (now payload) ≡ maxPayload ⌝ }
     ensures { λ r. ⌜ r ≡ carriedBy setKey settings size (now (payload .entry)) ⌝ }
 {
-    if size != 40 {
+    if size != KEY_SIZE {
         return answer(settings, INVALID_PARAMETER);
     }
     let mut key = [0u8; KEY_LENGTH];
-    octets::copy(&mut key, &payload[..KEY_LENGTH]);
+    octets::copy(&mut key, &payload[0..KEY_LENGTH]);
     let mut new = settings;
     new.key = key;
     answer(new, SUCCESS)
@@ -97,14 +104,14 @@ fn set_mapping(settings: Settings, size: u32, payload: &[u8]) -> Carried
     requires { ⌜ length (now payload) ≡ maxPayload ⌝ }
     ensures { λ r. ⌜ r ≡ carriedBy setMapping settings size (now (payload .entry)) ⌝ }
 {
-    if size % 8 != 0 {
+    if size % FIELD_SIZE != 0 {
         return answer(settings, INVALID_PARAMETER);
     }
-    let count = size / 8;
+    let count = size / FIELD_SIZE;
     if !table::is_power_of_two(count) {
         return answer(settings, INVALID_PARAMETER);
     }
-    if count > 128 {
+    if count > MOST_ENTRIES {
         return answer(settings, BUFFER_OVERFLOW);
     }
     let queues = settings.queues;

@@ -5,6 +5,7 @@ ghost use Prim.Native.Nat.{_*_, _≤_};
 ghost use lib.ListN.{length};
 ghost use Rattle.messages.specs.Settings.{maxEntries, isPowerOfTwo};
 ghost use Rattle.messages.specs.Inner.{Builds};
+use crate::FIELD;
 use crate::MAX_ENTRIES;
 use crate::Mapping;
 
@@ -23,7 +24,7 @@ pub fn build(payload: &[u8], count: u8, queues: u8) -> Built
     let mut k: u8 = 0;
     while k < count {
         // All eight octets count: a high one makes the queue number large.
-        let queue = octets::read_u64(payload, k as usize * 8);
+        let queue = octets::read_u64(payload, k as usize * FIELD);
         if queue >= queues as u64 {
             return Built {
                 passed: false,

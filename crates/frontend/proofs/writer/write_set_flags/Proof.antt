@@ -32,6 +32,7 @@ write-set-flags-spec =
     returns
     (λ c. search needs)
     returns-2
+    (λ c. search needs)
     (λ c κs. search needs)
     (λ c. search needs)
     (λ c. search needs)

@@ -33,6 +33,7 @@ write-set-key-spec =
     returns
     (λ c. search needs)
     returns-2
+    (λ c. search needs)
     (λ c κs. search needs)
     (λ c. search needs)
     (λ c. search needs)

@@ -1,21 +1,15 @@
 -- `messages::requests::set_key` meets its contract: the test picks the row of the table, and the key is the copied part.
 -- Assumes nothing.
-use mathlib.Core.Path.{sym, _∙_}
+use mathlib.Core.Path.{_∙_}
 use borrow.Author.Needs.{needs}
 use Rattle.messages.specs.Requests.{setKey}
 use Rattle.messages.proofs.Statuses.{set-key-size, set-key-done}
-use Rattle.messages.proofs.Effects.{carried-refused, length-key, key-set}
+use Rattle.messages.proofs.Effects.{carried-refused, key-set}
 use Rattle.messages.proofs.requests.set_key.Statement.{statement}
 use Rattle.messages.proofs.requests.set_key.Tie as tie
 
 returns : tie.Need-returns
 returns c = c .answer .ensures ∙ carried-refused setKey _ _ _ 1 (set-key-size _ _ _ (c .before .if1 .taken))
-
-slice-aggregate-copy-2 : tie.Need-slice-aggregate-copy-2
-slice-aggregate-copy-2 c = sym (length-key (c .before .before .before .before .args .payload .now) (c .before .before .before .before .pre))
-
-copy-requires : tie.Need-copy-requires
-copy-requires c κs = length-key (c .before .before .before .before .args .payload .now) (c .before .before .before .before .pre)
 
 returns-2 : tie.Need-returns-2
 returns-2 c =
@@ -30,7 +24,9 @@ set-key-spec =
     (λ c κs. search needs)
     returns
     (λ c. search needs)
-    slice-aggregate-copy-2
-    copy-requires
+    (λ c. search needs)
+    (λ c. search needs)
+    (λ c. search needs)
+    (λ c κs. search needs)
     (λ c κs. search needs)
     returns-2)
