@@ -85,7 +85,8 @@ allowed-most none st e =
 pub long-told : (n : ℕ) (m : List ℕ) → headerSize + fieldSize ≤ length m → length m - headerSize ≡ n → n ≡ sizeIn m → length m ≡ headerSize + sizeIn m
 long-told n m l e s = omega arith
 
-pub flags-told : (t st : ℕ) (b x : Bool) (m : List ℕ) → st ≡ statusIn m → b ≡ carriesFlags (requestOf t) st → b ≡ x → carriesFlags (requestOf t) (statusIn m) ≡ x
+pub flags-told : (t st : ℕ) (b x : Bool) (m : List ℕ) → st ≡ statusIn m → b ≡ carriesFlags (requestOf t) st → b ≡ x
+    → carriesFlags (requestOf t) (statusIn m) ≡ x
 flags-told t st b x m s e h = rw (← s) (sym e ∙ h)
 
 -- what the reader answers, by what it finds in turn
@@ -123,7 +124,8 @@ module _ (t : ℕ) (m : List ℕ) where
     accept-flags long type size flags =
         let got = flags-success (requestOf t) (statusIn m) carries in
         let allowed : statusAllowed (requestOf t) (statusIn m) ≡ true = rw (got .0, got .1) refl in
-        let x : Acks (requestOf t) m = record { long = long; ack = type; allowed = allowed; size = size ∙ sym with-flags-size; flags = rw carries (le-leb _ _ flags) } in
+        let x : Acks (requestOf t) m =
+        record { long = long; ack = type; allowed = allowed; size = size ∙ sym with-flags-size; flags = rw carries (le-leb _ _ flags) } in
         ap (λ (st : ℕ). value (statusAndFlags st (ackFlagsIn m))) (sym (got .1)) ∙ rw carries at (read-accepted t m x)
 
   -- an ack with a status alone
@@ -140,7 +142,8 @@ module _ (t : ℕ) (m : List ℕ) where
     pub accept-status : length m ≡ headerSize + sizeIn m → typeIn m ≡ ackType → sizeIn m ≡ fieldSize → statusAllowed (requestOf t) (statusIn m) ≡ true
         → value (status (statusIn m)) ≡ readAck t m
     accept-status long type size allowed =
-        let x : Acks (requestOf t) m = record { long = long; ack = type; allowed = allowed; size = size ∙ sym status-size; flags = rw carries refl } in
+        let x : Acks (requestOf t) m =
+        record { long = long; ack = type; allowed = allowed; size = size ∙ sym status-size; flags = rw carries refl } in
         rw carries at (read-accepted t m x)
 
 -- by the number of the type

@@ -12,7 +12,8 @@ use Rattle.octets.specs.Outcome.{value}
 use Rattle.octets.proofs.Numbers.{length-octets, number-octets-alone}
 use Rattle.messages.specs.Wire.{headerSize, fieldSize, header, message, sizeIn, typeIn, statusIn, ackFlagsIn, ackType}
 use Rattle.messages.specs.Wire.{success, bufferOverflow, allFlags}
-use Rattle.messages.specs.Requests.{Request, getFlags, setFlags, setKey, setMapping, none, requestOf, statusOf, carriesFlags, statusPayload, flagsPayload, ackPayload}
+use Rattle.messages.specs.Requests.{Request, getFlags, setFlags, setKey, setMapping, none}
+use Rattle.messages.specs.Requests.{requestOf, statusOf, carriesFlags, statusPayload, flagsPayload, ackPayload}
 use Rattle.messages.proofs.Parts.{message-is, length-message, type-header, size-header, number-payload}
 use Rattle.messages.proofs.AckOctets.{flags-success}
 use Rattle.messages.proofs.Statuses.{status-most, none-supported}

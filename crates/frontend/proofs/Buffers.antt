@@ -31,7 +31,8 @@ module _ (a b c : List ℕ) (n : ℕ) (e : c ≡ a ++ drop n b) (l : length a �
   rest k = sym (drop-drop k n c) ∙ ap (drop k) (rw e (drop-at a (drop n b) n l)) ∙ drop-drop k n b
 
 -- two stores of four octets are a header
-pub header-put : (t n : ℕ) (b b′ : List ℕ) → headerSize ≤ length b → b′ ≡ sets b 0 (octetsOf 4 t) → sets b′ 4 (octetsOf 4 n) ≡ header t n ++ drop headerSize b
+pub header-put : (t n : ℕ) (b b′ : List ℕ) → headerSize ≤ length b → b′ ≡ sets b 0 (octetsOf 4 t)
+    → sets b′ 4 (octetsOf 4 n) ≡ header t n ++ drop headerSize b
 unfolding header
 header-put t n b b′ h e =
     let o = octetsOf 4 t in
@@ -69,7 +70,8 @@ module _ (t n : ℕ) (p b : List ℕ) (size : n ≡ length p) where
         ∙ ap (λ (x : List ℕ). x ++ drop (headerSize + n) b) (ap (λ (k : ℕ). header t k ++ p) size ∙ sym (message-is t p))
 
     pub message-written : headerSize + n ≤ length b
-        → record { answer = value (headerSize + n); buffer = take headerSize b₁ ++ (p ++ drop n (drop headerSize b₁)) } ≡ written (value (message t p)) b
+        → record { answer = value (headerSize + n); buffer = take headerSize b₁ ++ (p ++ drop n (drop headerSize b₁)) }
+        ≡ written (value (message t p)) b
     message-written room =
         ap₂ (λ (k : ℕ) (x : List ℕ). record { answer = value k; buffer = x }) (sym whole)
         (payload-put ∙ ap (λ (k : ℕ). message t p ++ drop k b) (sym whole))
@@ -83,7 +85,8 @@ header-written t b b₁ put room =
     ∙ message-written t 0 [] b refl b₁ put room
 
 -- the part that a field is written into is the field
-pub field-written : (flags : ℕ) (part part′ : List ℕ) → length part ≡ fieldSize → part′ ≡ sets part 0 (octetsOf fieldSize flags) → part′ ≡ octetsOf fieldSize flags
+pub field-written : (flags : ℕ) (part part′ : List ℕ) → length part ≡ fieldSize
+    → part′ ≡ sets part 0 (octetsOf fieldSize flags) → part′ ≡ octetsOf fieldSize flags
 field-written flags part part′ l e = e ∙ sets-all part (octetsOf fieldSize flags) (l ∙ sym (length-octets fieldSize flags))
 
 pub length-fields : (xs : List ℕ) → length (fieldsOf xs) ≡ length xs * fieldSize
@@ -94,7 +97,9 @@ length-fields (x ∷ xs) = length-append (octetsOf fieldSize x) (fieldsOf xs) �
 fields-snoc : (xs : List ℕ) (x : ℕ) → fieldsOf (xs ++ (x ∷ [])) ≡ fieldsOf xs ++ octetsOf fieldSize x
 unfolding fieldsOf
 fields-snoc [] x = append-nil (octetsOf fieldSize x)
-fields-snoc (y ∷ xs) x = ap (λ (t : List ℕ). octetsOf fieldSize y ++ t) (fields-snoc xs x) ∙ sym (append-assoc (octetsOf fieldSize y) (fieldsOf xs) (octetsOf fieldSize x))
+fields-snoc (y ∷ xs) x =
+    ap (λ (t : List ℕ). octetsOf fieldSize y ++ t) (fields-snoc xs x)
+    ∙ sym (append-assoc (octetsOf fieldSize y) (fieldsOf xs) (octetsOf fieldSize x))
 
 -- one field more
 pub fields-next : (xs b b′ : List ℕ) (k : ℕ) → k < length xs → length b′ ≡ length xs * fieldSize → b′ ≡ fieldsOf (take k xs) ++ drop (k * fieldSize) b
@@ -111,7 +116,8 @@ fields-next xs b b′ k l long e =
     ∙ ap₂ (λ (x : List ℕ) (i : ℕ). x ++ drop i b) more place
 
 -- all fields
-pub fields-all : (xs b b′ : List ℕ) (k : ℕ) → length xs ≤ k → length b ≡ length xs * fieldSize → b′ ≡ fieldsOf (take k xs) ++ drop (k * fieldSize) b → b′ ≡ fieldsOf xs
+pub fields-all : (xs b b′ : List ℕ) (k : ℕ) → length xs ≤ k → length b ≡ length xs * fieldSize
+    → b′ ≡ fieldsOf (take k xs) ++ drop (k * fieldSize) b → b′ ≡ fieldsOf xs
 fields-all xs b b′ k l long e =
     e ∙ simp (take-all k xs l, drop-of-length-le b {i = k * fieldSize} (omega arith), append-nil)
 

@@ -14,7 +14,8 @@ use Rattle.octets.proofs.Truth.{both-true}
 use Rattle.toeplitz.specs.Hash.{keyLength}
 use Rattle.messages.specs.Wire.{fieldSize, message, getFlagsType, setFlagsType, setKeyType, setMappingType, success, invalidParameter, allFlags}
 use Rattle.messages.specs.Settings.{maxEntries, isPowerOfTwo, isListed, EachBelow, mappingOf}
-use Rattle.messages.specs.Requests.{setMapping, requestOf, entriesIn, allBelow, withFlags, withKey, withMapping, answered, answeredFlags, carriedBy, carriedMessage}
+use Rattle.messages.specs.Requests.{setMapping, requestOf, entriesIn, allBelow, withFlags, withKey}
+use Rattle.messages.specs.Requests.{withMapping, answered, answeredFlags, carriedBy, carriedMessage}
 use Rattle.messages.specs.declared.Settings.{Settings}
 use Rattle.messages.proofs.Parts.{carried-message}
 use Rattle.messages.proofs.Statuses.{get-flags-done, set-flags-done, set-key-done, set-mapping-entry, set-mapping-done}
@@ -30,7 +31,8 @@ module _ (s : Settings) (rest : List ℕ) where
       carried-message s getFlagsType [] rest (omega arith) (omega arith)
       ∙ sym (carried-flags s 0 rest (get-flags-done (s .queues) 0 rest refl))
 
-  pub set-flags-carried : (flags : ℕ) → flags ≤ allFlags → carriedMessage s (message setFlagsType (octetsOf fieldSize flags)) rest ≡ answered (withFlags s flags) success
+  pub set-flags-carried : (flags : ℕ) → flags ≤ allFlags
+      → carriedMessage s (message setFlagsType (octetsOf fieldSize flags)) rest ≡ answered (withFlags s flags) success
   unfolding requestOf
   set-flags-carried flags l =
       let p = octetsOf fieldSize flags in
@@ -43,7 +45,9 @@ module _ (s : Settings) (rest : List ℕ) where
   unfolding requestOf
   set-key-carried key long =
       carried-message s setKeyType key rest (omega arith) (rw long (omega arith))
-      ∙ sym (key-set s (length key) (key ++ rest) key (sym (take-at key rest keyLength long)) (set-key-done (s .queues) (length key) (key ++ rest) long))
+      ∙ sym
+      (key-set s (length key) (key ++ rest) key (sym (take-at key rest keyLength long))
+      (set-key-done (s .queues) (length key) (key ++ rest) long))
 
 module _ (s : Settings) (es rest : List ℕ) (small : EachBelow (256 ^ fieldSize) es) (listed : isListed (length es) ≡ true) where
   -- the message's size and kept payload, and what the host finds in them
@@ -77,7 +81,10 @@ module _ (s : Settings) (es rest : List ℕ) (small : EachBelow (256 ^ fieldSize
 
   judged : (t : Bool) → allBelow (s .queues) es ≡ t
       → carriedBy setMapping s size p ≡ cond t (answered (withMapping s (mappingOf es)) success) (answered s invalidParameter)
-  judged true a = sym (mapping-set s size p (mappingOf es) (ap mappingOf (sym read)) (set-mapping-done (s .queues) size p multiple power few (below true a)))
+  judged true a =
+      sym
+      (mapping-set s size p (mappingOf es) (ap mappingOf (sym read))
+      (set-mapping-done (s .queues) size p multiple power few (below true a)))
   judged false a = sym (carried-refused setMapping s size p 1 (set-mapping-entry (s .queues) size p multiple power few (below false a)))
 
   pub set-mapping-carried : carriedMessage s (message setMappingType (fieldsOf es)) rest

@@ -32,7 +32,8 @@ module _ (m b : List ℕ) where
 
   pub message-refused : (k : ℕ) → written (value m) b .answer ≡ refused k → (k ≡ bufferTooShort) × (length b < length m)
   message-refused k e =
-      by-room (λ h. absurd (value-not-refused (length m) k (sym (answer-whole h) ∙ e))) (λ h. (sym (refused-same bufferTooShort k (sym (answer-short h) ∙ e)), h))
+      by-room (λ h. absurd (value-not-refused (length m) k (sym (answer-whole h) ∙ e)))
+      (λ h. (sym (refused-same bufferTooShort k (sym (answer-short h) ∙ e)), h))
 
   -- a message that is written stands at the start, and the octets behind it stay
   pub message-left : (n : ℕ) → written (value m) b .answer ≡ value n

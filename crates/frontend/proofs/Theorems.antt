@@ -143,12 +143,15 @@ module _ (s : Settings) (m rest : List ℕ) where
 
     -- success exactly if every entry is below the queue count
     pub written-mapping-exactly : (ackStatus (carriedMessage s m rest) ≡ success) ↔ EachBelow (s .queues) es
-    written-mapping-exactly = (λ h. all-below-exactly (s .queues) es .0 (below (allBelow (s .queues) es) refl h), λ h. good (all-below-exactly (s .queues) es .1 h))
+    written-mapping-exactly =
+        let exactly = all-below-exactly (s .queues) es in
+        (λ h. exactly .0 (below (allBelow (s .queues) es) refl h), λ h. good (exactly .1 h))
       where
         below : (t : Bool) → allBelow (s .queues) es ≡ t → ackStatus (carriedMessage s m rest) ≡ success → t ≡ true
         below true a h = refl
         below false a h =
-            let refused : ackStatus (carriedMessage s m rest) ≡ invalidParameter = rw (written-set-mapping, a) (answered-status s invalidParameter (omega arith)) in
+            let refused : ackStatus (carriedMessage s m rest) ≡ invalidParameter =
+            rw (written-set-mapping, a) (answered-status s invalidParameter (omega arith)) in
             absurd (omega arith)
 
         good : allBelow (s .queues) es ≡ true → ackStatus (carriedMessage s m rest) ≡ success

@@ -1,7 +1,7 @@
 -- The octets of the two kinds of ack, and the status in them.
 -- Assumes nothing.
 use mathlib.Core.Path.{_≡_, refl, sym, ap, _∙_}
-use mathlib.Core.List.{_∷_}
+use mathlib.Core.List.{List, _∷_, _++_}
 use mathlib.Core.Bool.{Bool, true, false, cond, false≢true}
 use Prim.Native.Nat.{ℕ, _^_, _<_}
 use native.Mathlib.Omega.{arith}
@@ -25,9 +25,13 @@ low-stored status = refl
 pub status-stored : (status : ℕ) → status < 256 → stored 8 8 status 16 ≡ ackStored (statusPayload status)
 status-stored status h = low-stored status ∙ ap ackStored (sym (octets-small 7 status h))
 
-pub flags-stored : stored 16 16 allFlags 24 ≡ ackStored (flagsPayload allFlags)
+low-flags-stored : (flags : ℕ) → stored 16 16 flags 24 ≡ ackStored (octetsOf fieldSize success ++ flags ∷ replicate 7 0)
 unfolding message header octetsOf
-flags-stored = refl
+low-flags-stored flags = refl
+
+pub flags-stored : (flags : ℕ) → flags < 256 → stored 16 16 flags 24 ≡ ackStored (flagsPayload flags)
+flags-stored flags h =
+    low-flags-stored flags ∙ ap (λ (x : List ℕ). ackStored (octetsOf fieldSize success ++ x)) (sym (octets-small 7 flags h))
 
 -- only the ack of a get flags that succeeded has flags
 pub flags-success : (r : Request) (status : ℕ) → carriesFlags r status ≡ true → (r ≡ getFlags) × (status ≡ success)

@@ -39,7 +39,8 @@ module _ (r : Request) (s : Settings) (n : ℕ) (p : List ℕ) where
   settings-done e = rw (eq-eqb _ _ e) refl
 
   -- what holds of the settings before, and after a success, holds of those left
-  pub settings-either : (P : Settings → Type 0) → P s → (statusOf r (s .queues) n p ≡ success → P (replaced r s n p)) → P (carriedBy r s n p .settings)
+  pub settings-either : (P : Settings → Type 0) → P s → (statusOf r (s .queues) n p ≡ success → P (replaced r s n p))
+      → P (carriedBy r s n p .settings)
   unfolding carriedBy
   settings-either P before after = by (eqb (statusOf r (s .queues) n p) success) refl
     where
@@ -65,7 +66,8 @@ module _ (s : Settings) (n : ℕ) (p : List ℕ) where
   unfolding carriedBy replaced
   carried-flags e = rw e refl
 
-  pub flags-set : (flags : ℕ) → flags ≡ flagsIn p → statusOf setFlags (s .queues) n p ≡ success → answered (withFlags s flags) success ≡ carriedBy setFlags s n p
+  pub flags-set : (flags : ℕ) → flags ≡ flagsIn p → statusOf setFlags (s .queues) n p ≡ success
+      → answered (withFlags s flags) success ≡ carriedBy setFlags s n p
   unfolding replaced
   flags-set flags f e = ap (λ (x : ℕ). answered (withFlags s x) success) f ∙ carried-done setFlags s n p e refl
 

@@ -30,7 +30,8 @@ count-listed : (n : ℕ) → isPowerOfTwo n ≡ true → n ≤ maxEntries → is
 unfolding isListed
 count-listed n e l = rw (e, le-leb _ _ l) refl
 
-pub good-mapping : (q : ℕ) (table : List ℕ) → isPowerOfTwo (length table) ≡ true → length table ≤ maxEntries → EachBelow q table → GoodMapping q (mappingOf table)
+pub good-mapping : (q : ℕ) (table : List ℕ) → isPowerOfTwo (length table) ≡ true → length table ≤ maxEntries
+    → EachBelow q table → GoodMapping q (mappingOf table)
 good-mapping q table e l h =
     record { size = length-stored table l; listed = count-listed (length table) e l; below = subst (EachBelow q) (sym (table-stored table)) h }
 
@@ -67,5 +68,5 @@ module _ (s : Settings) (n : ℕ) (p : List ℕ) (good : Good s) (whole : keyLen
       let long : length table ≡ n / fieldSize = length-entries (n / fieldSize) p in
       let x = set-mapping-exactly (s .queues) n p .0 e in
       with-mapping (mappingOf table)
-      (good-mapping (s .queues) table (rw long (x .1)) (rw long (x .2)) (all-below-exactly (s .queues) table .0 (x .3)))
+      (good-mapping (s .queues) table (rw long (x .power)) (rw long (x .few)) (all-below-exactly (s .queues) table .0 (x .below)))
   good-replaced none e = good

@@ -58,8 +58,10 @@ module _ (s : Settings) (n : ℕ) (p p′ : List ℕ) (same : n ≤ maxPayload �
       check-same (eqb n fieldSize) _ _ _ (λ t. ap (λ (f : ℕ). check (leb f allFlags) invalidParameter success) (flags-same (eqb-true _ _ t)))
   status-same setKey q = refl
   status-same setMapping q =
-      check-same (eqb (n % fieldSize) 0) _ _ _ (λ m. check-same (isPowerOfTwo (n / fieldSize)) _ _ _ (λ b. check-same (leb (n / fieldSize) maxEntries) _ _ _ (λ l.
-      ap (λ (e : List ℕ). check (allBelow q e) invalidParameter success) (table-same (eqb-true _ _ m) (leb-true _ _ l)))))
+      check-same (eqb (n % fieldSize) 0) _ _ _ (λ multiple.
+      check-same (isPowerOfTwo (n / fieldSize)) _ _ _ (λ power.
+      check-same (leb (n / fieldSize) maxEntries) _ _ _ (λ few.
+      ap (λ (e : List ℕ). check (allBelow q e) invalidParameter success) (table-same (eqb-true _ _ multiple) (leb-true _ _ few)))))
   status-same none q = refl
 
   replaced-same : (r : Request) → statusOf r (s .queues) n p ≡ success → replaced r s n p ≡ replaced r s n p′
@@ -69,12 +71,13 @@ module _ (s : Settings) (n : ℕ) (p p′ : List ℕ) (same : n ≤ maxPayload �
   replaced-same setKey e = ap (withKey s) (key-same (set-key-exactly (s .queues) n p .0 e))
   replaced-same setMapping e =
       let x = set-mapping-exactly (s .queues) n p .0 e in
-      ap (λ (t : List ℕ). withMapping s (mappingOf t)) (table-same (x .0) (x .2))
+      ap (λ (t : List ℕ). withMapping s (mappingOf t)) (table-same (x .multiple) (x .few))
   replaced-same none e = refl
 
   pub carried-same : (r : Request) → carriedBy r s n p ≡ carriedBy r s n p′
   unfolding carriedBy
   carried-same r =
-      let settings : cond (eqb (statusOf r (s .queues) n p) success) (replaced r s n p) s ≡ cond (eqb (statusOf r (s .queues) n p) success) (replaced r s n p′) s =
-      cond-same (eqb (statusOf r (s .queues) n p) success) _ _ s (λ t. replaced-same r (eqb-true _ _ t)) in
+      let passed = eqb (statusOf r (s .queues) n p) success in
+      let settings : cond passed (replaced r s n p) s ≡ cond passed (replaced r s n p′) s =
+      cond-same passed _ _ s (λ t. replaced-same r (eqb-true _ _ t)) in
       rw (settings, status-same r (s .queues)) refl

@@ -60,7 +60,8 @@ message-back m o long =
     sym (take-append-drop headerSize m) ∙ ap (λ (x : List ℕ). x ++ payloadIn m) front
 
 -- carrying out a message takes its own type, size and payload
-pub carried-message : (s : Settings) (t : ℕ) (p rest : List ℕ) → t < 256 ^ 4 → length p < 256 ^ 4 → carriedMessage s (message t p) rest ≡ carriedOut s t (length p) (p ++ rest)
+pub carried-message : (s : Settings) (t : ℕ) (p rest : List ℕ) → t < 256 ^ 4 → length p < 256 ^ 4
+    → carriedMessage s (message t p) rest ≡ carriedOut s t (length p) (p ++ rest)
 unfolding message
 carried-message s t p rest h l =
     rw (type-header t (length p) p h, size-header t (length p) p l, payload-message t p) refl

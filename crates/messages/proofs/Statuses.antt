@@ -87,19 +87,24 @@ module _ (q n : ℕ) (p : List ℕ) where
   unfolding statusOf
   set-key-exactly = (λ e. eqb-true _ _ (check-passed (eqb n keyLength) _ _ e .0), set-key-done)
 
-  pub set-mapping-exactly : (statusOf setMapping q n p ≡ success)
-      ↔ ((n % fieldSize ≡ 0) × (isPowerOfTwo (n / fieldSize) ≡ true) × (n / fieldSize ≤ maxEntries) × (allBelow q (entriesIn (n / fieldSize) p) ≡ true))
+  -- a set mapping passes its four checks
+  pub record MappingPasses : Type 0 where
+    pub multiple : n % fieldSize ≡ 0
+    pub power : isPowerOfTwo (n / fieldSize) ≡ true
+    pub few : n / fieldSize ≤ maxEntries
+    pub below : allBelow q (entriesIn (n / fieldSize) p) ≡ true
+
+  pub set-mapping-exactly : (statusOf setMapping q n p ≡ success) ↔ MappingPasses
   unfolding statusOf
-  set-mapping-exactly = (passed, λ x. set-mapping-done (x .0) (x .1) (x .2) (x .3))
+  set-mapping-exactly = (passed, λ x. set-mapping-done (x .multiple) (x .power) (x .few) (x .below))
     where
-      passed : statusOf setMapping q n p ≡ success
-          → (n % fieldSize ≡ 0) × (isPowerOfTwo (n / fieldSize) ≡ true) × (n / fieldSize ≤ maxEntries) × (allBelow q (entriesIn (n / fieldSize) p) ≡ true)
+      passed : statusOf setMapping q n p ≡ success → MappingPasses
       passed e =
           let size = check-passed (eqb (n % fieldSize) 0) _ _ e in
           let power = check-passed (isPowerOfTwo (n / fieldSize)) _ _ (size .1) in
           let few = check-passed (leb (n / fieldSize) maxEntries) _ _ (power .1) in
           let below = check-passed (allBelow q (entriesIn (n / fieldSize) p)) _ _ (few .1) in
-          (eqb-true _ _ (size .0), power .0, leb-true _ _ (few .0), below .0)
+          record { multiple = eqb-true _ _ (size .0); power = power .0; few = leb-true _ _ (few .0); below = below .0 }
 
   -- no status is above 3
   pub status-most : (r : Request) → statusOf r q n p ≤ bufferOverflow

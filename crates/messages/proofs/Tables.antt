@@ -93,5 +93,6 @@ stored-next k x p table l e h =
     ∙ sym (append-snoc E x R)
     ∙ ap₂ (λ (t : List ℕ) (n : ℕ). t ++ replicate (maxEntries - n) 0) longer left
 
-pub stored-all : (k : ℕ) (p table : List ℕ) → table ≡ mappingOf (entriesIn k p) .entries → record { entries = table; count = k } ≡ mappingOf (entriesIn k p)
+pub stored-all : (k : ℕ) (p table : List ℕ) → table ≡ mappingOf (entriesIn k p) .entries
+    → record { entries = table; count = k } ≡ mappingOf (entriesIn k p)
 stored-all k p table h = ap₂ (λ (t : List ℕ) (n : ℕ). record { entries = t; count = n }) h (sym (length-entries k p))

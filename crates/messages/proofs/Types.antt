@@ -25,4 +25,7 @@ pub request-cases : (P : Request → Type 0) (t : ℕ)
     → P (requestOf t)
 unfolding requestOf
 request-cases P t two three four five other =
-    by-test P t getFlagsType _ _ two (λ n2. by-test P t setFlagsType _ _ three (λ n3. by-test P t setKeyType _ _ four (λ n4. by-test P t setMappingType _ _ five (λ n5. other n2 n3 n4 n5))))
+    by-test P t getFlagsType _ _ two (λ n2.
+    by-test P t setFlagsType _ _ three (λ n3.
+    by-test P t setKeyType _ _ four (λ n4.
+    by-test P t setMappingType _ _ five (λ n5. other n2 n3 n4 n5))))

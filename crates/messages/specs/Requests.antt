@@ -7,7 +7,8 @@ use lib.ListN.{length, take, drop, replicate}
 use lib.Dec.{eqb, leb, ltb}
 use Rattle.octets.specs.Numbers.{numberAt, octetsOf}
 use Rattle.toeplitz.specs.Hash.{keyLength}
-use Rattle.messages.specs.Wire.{fieldSize, message, typeIn, sizeIn, payloadIn, statusIn, ackType, getFlagsType, setFlagsType, setKeyType, setMappingType}
+use Rattle.messages.specs.Wire.{fieldSize, message, typeIn, sizeIn, payloadIn, statusIn}
+use Rattle.messages.specs.Wire.{ackType, getFlagsType, setFlagsType, setKeyType, setMappingType}
 use Rattle.messages.specs.Wire.{success, notSupported, invalidParameter, bufferOverflow, allFlags}
 use Rattle.messages.specs.Settings.{maxEntries, isPowerOfTwo, mappingOf}
 use Rattle.messages.specs.declared.Mapping.{Mapping}

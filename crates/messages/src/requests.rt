@@ -64,9 +64,10 @@ fn get_flags(settings: Settings, size: u32) -> Carried
     if size != 0 {
         return answer(settings, INVALID_PARAMETER);
     }
+    // What is supported, whatever is set.
     Carried {
         settings,
-        ack: acks::with_flags(),
+        ack: acks::with_flags(ALL_FLAGS),
     }
 }
 

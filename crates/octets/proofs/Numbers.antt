@@ -4,7 +4,8 @@
 use mathlib.Core.Path.{_≡_, refl, sym, ap, ap₂, _∙_}
 use mathlib.Core.List.{List, [], _∷_, _++_, append-nil}
 use Prim.Native.Nat.{ℕ, zero, suc, _+_, _*_, _/_, _%_, _^_, _≤_, _<_}
-use native.Mathlib.Nat.{add-zero, suc-add, zero-add, add-assoc, one-mul, mul-add, mul-assoc, pow-suc, pow-succ', div-one, div-div-eq-div-mul, div-lt-iff-lt-mul, mod-lt, mod-eq-of-lt, div-eq-of-lt, mod-add-div, pow-le-pow-right}
+use native.Mathlib.Nat.{add-zero, suc-add, zero-add, add-assoc, one-mul, mul-add, mul-assoc, pow-suc, pow-succ'}
+use native.Mathlib.Nat.{div-one, div-div-eq-div-mul, div-lt-iff-lt-mul, mod-lt, mod-eq-of-lt, div-eq-of-lt, mod-add-div, pow-le-pow-right}
 use native.Mathlib.Omega.{arith}
 use lib.Arith.{mod-mul, digits-div, digits-mod}
 use lib.ListN.{length, getD, take, drop, set, replicate, List·getD-append}
@@ -112,7 +113,8 @@ octets-number (suc n) xs i o h =
     ∙ rw (drop-cons xs i 0 there, next) refl
 
 -- four octets, written out
-pub number-four : (xs : List ℕ) (i : ℕ) → numberAt 4 xs i ≡ getD xs i 0 + 256 * getD xs (i + 1) 0 + 65536 * getD xs (i + 2) 0 + 16777216 * getD xs (i + 3) 0
+pub number-four : (xs : List ℕ) (i : ℕ)
+    → numberAt 4 xs i ≡ getD xs i 0 + 256 * getD xs (i + 1) 0 + 65536 * getD xs (i + 2) 0 + 16777216 * getD xs (i + 3) 0
 number-four xs i =
     let two : i + 1 + 1 ≡ i + 2 = omega arith in
     let three : i + 2 + 1 ≡ i + 3 = omega arith in
@@ -138,7 +140,8 @@ stored-four l i v =
     ) refl
 
 -- eight octets are four and four
-pub stored-eight : (l m : List ℕ) (i v : ℕ) → m ≡ sets l i (octetsOf 4 (v % 256 ^ 4)) → sets m (i + 4) (octetsOf 4 (v / 256 ^ 4)) ≡ sets l i (octetsOf 8 v)
+pub stored-eight : (l m : List ℕ) (i v : ℕ) → m ≡ sets l i (octetsOf 4 (v % 256 ^ 4))
+    → sets m (i + 4) (octetsOf 4 (v / 256 ^ 4)) ≡ sets l i (octetsOf 8 v)
 stored-eight l m i v e =
     let four = octetsOf 4 v in
     let place : i + length four ≡ i + 4 = ap (λ (n : ℕ). i + n) (length-octets 4 v) in

@@ -6,11 +6,11 @@ use mathlib.Core.List.{List}
 use mathlib.Core.Logic.{_↔_}
 use mathlib.Core.Bool.{Bool, true, false, cond}
 use Prim.Native.Nat.{ℕ, _≤_, _<_}
-use native.Mathlib.Omega.{arith}
 use lib.ListN.{length}
 use lib.Dec.{eqb, leb}
 use borrow.Author.Tests.{eq-eqb, ne-eqb, eqb-true, eqb-false, le-leb, lt-leb, leb-true, leb-false}
 use Rattle.octets.specs.Outcome.{Outcome, value, refused}
+use Rattle.octets.proofs.Outcomes.{value-same, refused-same, value-not-refused}
 use Rattle.toeplitz.specs.Refusals.{keyLengthWrong}
 use Rattle.toeplitz.specs.Hash.{keyLength}
 
@@ -20,21 +20,19 @@ module _ {A : Type 0} (v : A) (r : ℕ) where
   judged s t = cond s (cond t (value v) (refused r)) (refused keyLengthWrong)
 
   if-value : (s t : Bool) (x : A) → judged s t ≡ value x → (s ≡ true) × (t ≡ true) × (v ≡ x)
-  if-value true true x e = (refl, refl, cc)
-  if-value true false x e = let z : _≡_ {A = ℕ} 0 1 = cc in absurd (omega arith)
-  if-value false t x e = let z : _≡_ {A = ℕ} 0 1 = cc in absurd (omega arith)
+  if-value true true x e = (refl, refl, value-same v x e)
+  if-value true false x e = absurd (value-not-refused x r (sym e))
+  if-value false t x e = absurd (value-not-refused x keyLengthWrong (sym e))
 
   if-key : (r ≡ keyLengthWrong → ⊥) → (s t : Bool) → judged s t ≡ refused keyLengthWrong → s ≡ false
-  if-key d true true e = let z : _≡_ {A = ℕ} 0 1 = cc in absurd (omega arith)
-  if-key d true false e = absurd (d (cc))
+  if-key d true true e = absurd (value-not-refused v keyLengthWrong e)
+  if-key d true false e = absurd (d (refused-same r keyLengthWrong e))
   if-key d false t e = refl
 
   if-limit : (r ≡ keyLengthWrong → ⊥) → (s t : Bool) → judged s t ≡ refused r → (s ≡ true) × (t ≡ false)
-  if-limit d true true e = let z : _≡_ {A = ℕ} 0 1 = cc in absurd (omega arith)
+  if-limit d true true e = absurd (value-not-refused v r e)
   if-limit d true false e = (refl, refl)
-  if-limit d false t e =
-      let q : keyLengthWrong ≡ r = cc in
-      absurd (d (sym q))
+  if-limit d false t e = absurd (d (sym (refused-same keyLengthWrong r e)))
 
 module _ {A : Type 0} (v : A) (r : ℕ) (key : List ℕ) (n limit : ℕ) where
   abbrev pub outcome : Outcome A

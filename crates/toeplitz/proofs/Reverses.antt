@@ -7,11 +7,12 @@ use native.Mathlib.Decide.{decLt}
 use native.Mathlib.Omega.{arith}
 use lib.ListN.{length, getD, List·getD-eq-default}
 use lib.Seq.{ext-getD}
+use Rattle.octets.specs.Numbers.{AreOctets}
 use Rattle.toeplitz.specs.TwoWay.{sizeOf, addressSize, portSize, IsInput, swapped, reverseOf}
 use Rattle.toeplitz.proofs.Mirror.{place, mirror, mirror-lt, mirror-twice, length-swapped, getD-swapped}
 
 module _ (a p : ℕ) (xs : List ℕ) (e : length xs ≡ sizeOf a p) where
-  octets-swapped : ((i : ℕ) → getD xs i 0 < 256) → (i : ℕ) → getD (swapped a p xs) i 0 < 256
+  octets-swapped : AreOctets xs → AreOctets (swapped a p xs)
   octets-swapped o i =
       elim (decLt i (sizeOf a p)) [
         | yes h ↦ rw (getD-swapped a p xs e i (place a p i h)) (o (mirror a p i))

@@ -11,6 +11,7 @@ use lib.ListN.{length, getD}
 use lib.Bits.{bitXor, xor-lt}
 use lib.Dec.{eqb, lit≤}
 use borrow.Author.Tests.{eq-eqb, ne-eqb, eqb-true, eqb-false, not-true, not-false}
+use Rattle.octets.specs.Numbers.{AreOctets}
 use Rattle.octets.specs.Outcome.{Outcome, value, refused}
 use Rattle.toeplitz.specs.Refusals.{inputTooLong, keyLengthWrong, typeUnknown}
 use Rattle.toeplitz.specs.Hash.{keyLength, maxInput, publishedHash, hashOutcome, hashOutcomeOf}
@@ -78,8 +79,7 @@ hash-linear-in-key k l input x y p q =
     (length-xor k l (f .0 ∙ sym (g .0)) ∙ f .0, f .1, linear-in-key k l input ∙ ap₂ bitXor (f .2) (g .2))
 
 -- (the XOR of octets is octets)
-pub xor-octets : (a b : List ℕ) → ((i : ℕ) → getD a i 0 < 256) → ((i : ℕ) → getD b i 0 < 256)
-    → (i : ℕ) → getD (xorOctets a b) i 0 < 256
+pub xor-octets : (a b : List ℕ) → AreOctets a → AreOctets b → AreOctets (xorOctets a b)
 xor-octets a b f g i = rw (getD-xor a b i) (xor-lt 8 (getD a i 0) (getD b i 0) (f i) (g i))
 
 -- ---- the two-way call

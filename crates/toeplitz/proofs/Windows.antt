@@ -9,6 +9,7 @@ use native.Mathlib.Omega.{arith}
 use lib.ListN.{getD}
 use lib.Pow.{shr-shr}
 use lib.Bits.{bitXor}
+use Rattle.octets.specs.Numbers.{AreOctets}
 use Rattle.toeplitz.specs.Hash.{bitAt, bitsAt, windowAt, whenSet, termAt, xorBelow}
 use Rattle.toeplitz.specs.Inner.{fourOctets, Reached}
 use Rattle.toeplitz.proofs.Linear.{bitAt-lt}
@@ -57,7 +58,7 @@ octet : (xs : List ℕ) (a : ℕ) → getD xs a 0 < 256 → bitsAt xs (a * 8) 8 
 octet xs a h = octet-top xs a 8 0 refl h ∙ omega arith
 
 -- the window at an octet's top bit is four octets
-pub window-octets : (xs : List ℕ) (a : ℕ) → ((i : ℕ) → getD xs i 0 < 256)
+pub window-octets : (xs : List ℕ) (a : ℕ) → AreOctets xs
     → windowAt xs (a * 8) ≡ fourOctets xs a
 unfolding windowAt
 window-octets xs a h =

@@ -7,7 +7,8 @@ use borrow.Author.Tests.{not-true, not-false}
 use Rattle.octets.specs.Outcome.{value}
 use Rattle.messages.specs.Wire.{success, bufferOverflow}
 use Rattle.frontend.specs.Reader.{status, statusAndFlags}
-use Rattle.frontend.proofs.Accepts.{allowed-most, long-told, flags-told, refuse-short, refuse-type, refuse-length, refuse-flags-size, refuse-flags, accept-flags}
+use Rattle.frontend.proofs.Accepts.{allowed-most, long-told, flags-told, refuse-short, refuse-type}
+use Rattle.frontend.proofs.Accepts.{refuse-length, refuse-flags-size, refuse-flags, accept-flags}
 use Rattle.frontend.proofs.Accepts.{refuse-size, refuse-status, accept-status}
 use Rattle.frontend.proofs.reader.read_ack.Statement.{statement}
 use Rattle.frontend.proofs.reader.read_ack.Tie as tie

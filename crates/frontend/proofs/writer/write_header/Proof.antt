@@ -1,7 +1,10 @@
 -- `frontend::writer::write_header` meets its contract: the two stores are those of a header.
 -- Assumes nothing.
 use mathlib.Core.Path.{_∙_}
+use Prim.Native.Nat.{_≤_}
+use lib.ListN.{length}
 use borrow.Author.Needs.{needs}
+use Rattle.messages.specs.Wire.{headerSize}
 use Rattle.frontend.proofs.Buffers.{header-put}
 use Rattle.frontend.proofs.writer.write_header.Statement.{statement}
 use Rattle.frontend.proofs.writer.write_header.Tie as tie
@@ -10,7 +13,8 @@ returns : tie.Need-returns
 returns c =
     let size = c .before .before in
     let kind = size .before .before .before .before in
-    size .write-u322 .ensures ∙ header-put _ _ _ _ (kind .before .before .before .pre) (kind .write-u32 .ensures)
+    let room : headerSize ≤ length (kind .before .before .before .args .buffer .now) = search needs in
+    size .write-u322 .ensures ∙ header-put _ _ _ _ room (kind .write-u32 .ensures)
 
 pub write-header-spec : {M : Type 1} → statement M
 write-header-spec =

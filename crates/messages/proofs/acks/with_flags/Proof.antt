@@ -6,7 +6,7 @@ use Rattle.messages.proofs.acks.with_flags.Statement.{statement}
 use Rattle.messages.proofs.acks.with_flags.Tie as tie
 
 returns : tie.Need-returns
-returns c = flags-stored
+returns c = flags-stored _ (search needs)
 
 pub with-flags-spec : {M : Type 1} → statement M
 with-flags-spec =
