@@ -1,10 +1,11 @@
 """The cases of the control messages, with what document 01's worked lines say of them.
 
-The program `message_vectors` runs them from its file `cases`: the kind, the length of the body in two octets, and the
-body. A set-up case starts a new interface, and the requests behind it act on that one.
+The program `message_vectors` runs them from its file `cases`. A set-up case starts a new interface, and the requests
+behind it act on that one.
 """
 
 import messages
+from cases import case_file
 from messages import GET_FLAGS, SET_FLAGS, SET_KEY, SET_MAPPING, octets
 from seeds import seeded, seeded_below
 
@@ -215,9 +216,7 @@ def files():
     """Each stored file, by its path below crates/, with the octets that it must have."""
     agree_with_papers()
     cases = list(all_cases())
-    data = b"".join(bytes([kind]) + octets(len(body), 2) + body for kind, body in cases)
-    assert len(data) <= 65536, f"message_vectors reads no more than 65,536 octets, not {len(data)}"
     return {
-        "message_vectors/data/cases": data,
+        "message_vectors/data/cases": case_file(cases),
         "message_vectors/stdout": "".join(expected(cases)).encode(),
     }

@@ -1,12 +1,13 @@
 """The cases of the hash and the two-way question, with what is known of them from elsewhere.
 
-Each case is (kind, first part, second part). The program `hash_vectors` runs them from its file `cases`:
-a head of three octets, the kind and the lengths of the two parts, and then the parts.
+Each case is (kind, first part, second part). The program `hash_vectors` runs them from its file `cases`, in the
+body of each the length of the first part, an octet, and then the parts.
 """
 
 import ipaddress
 
 import toeplitz
+from cases import case_file
 from seeds import seeded
 
 HASH, TWO_WAY, HASH_PROGRAM, TWO_WAY_PROGRAM = range(4)
@@ -149,8 +150,7 @@ def files():
     """Each stored file, by its path below crates/, with the octets that it must have."""
     agree_with_papers()
     cases = list(all_cases())
-    data = b"".join(bytes([kind, len(first), len(second)]) + first + second for kind, first, second in cases)
-    assert len(data) <= 65536, "hash_vectors reads no more"
+    data = case_file((kind, bytes([len(first)]) + first + second) for kind, first, second in cases)
     hash_stdin = COUNTING_KEY + b"\x80\x80"
     return {
         "hash_vectors/data/cases": data,

@@ -1,18 +1,11 @@
-// Runs the cases of the file `cases` and prints a line for each answer. A case is a head of three
-// octets, its kind, m and n, and then m and n octets.
-ghost use Rattle.hash_vectors.specs.Cases.{Within};
+// Runs the cases of the file `cases` and prints a line for each answer. A case's body is the length of its
+// first part, an octet, and then its two parts.
+ghost use Prim.Native.Nat.{_≤_};
 ghost use lib.ListN.{length};
-use libc::STDOUT_FILENO;
-
-// Where a case's two parts stand, and where it ends; or a case cut short.
-enum Case {
-    Parts {
-        first: usize,
-        second: usize,
-        end: usize,
-    },
-    Cut,
-}
+use cases::Case;
+use cases::case_at;
+use cases::print_cut;
+use cases::wide;
 
 // The kinds: a hash call on a key and an input, a two-way call on a key and a hash type of one octet, and
 // what the two programs print for the second part.
@@ -23,15 +16,8 @@ const TWO_WAY: u8 = 1;
 const HASH_PROGRAM: u8 = 2;
 
 fn main() {
-    let name = b"cases";
-    let file = os::open_read(name);
-    if file < 0 {
-        os::fail(name);
-        return;
-    }
     let mut buffer = io::large_buffer();
-    let n = io::read_full(file, &mut buffer);
-    libc::close(file);
+    let n = cases::load(&mut buffer);
     run(&buffer[..n]);
 }
 
@@ -40,46 +26,30 @@ fn run(cases: &[u8]) {
     while at < cases.len() {
         let case = case_at(cases, at);
         match case {
-            Case::Parts { first, second, end } => {
-                answer(cases[at], &cases[first..second], &cases[second..end]);
+            Case::Body { start, end } => {
+                split(cases[at], &cases[start..end]);
                 at = end;
             }
             Case::Cut => {
-                cut();
+                print_cut();
                 return;
             }
         }
     }
 }
 
-fn cut() {
-    io::write_all(STDOUT_FILENO, b"cut\n");
-}
-
-fn case_at(cases: &[u8], at: usize) -> Case
-    ensures { λ r. ⌜ Within (length (now (cases .entry))) at r ⌝ }
-{
-    if cases.len() < 3 {
-        return Case::Cut;
+// The two parts of a case.
+fn split(kind: u8, body: &[u8]) {
+    if body.len() < 1 {
+        print_cut();
+        return;
     }
-    if cases.len() - 3 < at {
-        return Case::Cut;
+    let second = 1 + wide(body[0]);
+    if body.len() < second {
+        print_cut();
+        return;
     }
-    let first = at + 3;
-    let m = wide(cases[at + 1]);
-    if cases.len() - first < m {
-        return Case::Cut;
-    }
-    let second = first + m;
-    let n = wide(cases[at + 2]);
-    if cases.len() - second < n {
-        return Case::Cut;
-    }
-    Case::Parts {
-        first,
-        second,
-        end: second + n,
-    }
+    answer(kind, &body[1..second], &body[second..]);
 }
 
 fn answer(kind: u8, first: &[u8], second: &[u8]) {
@@ -100,10 +70,6 @@ fn hash_type(octets: &[u8]) -> u32 {
     } else {
         number(octets[0])
     }
-}
-
-fn wide(x: u8) -> usize {
-    x as usize
 }
 
 fn number(x: u8) -> u32 {

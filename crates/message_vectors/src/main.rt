@@ -1,24 +1,20 @@
-// Runs the cases of the file `cases` and prints a line for each. A case is its kind, an octet, the length of
-// its body, two octets, and the body. Cases of requests act on one interface after the other.
-ghost use Prim.Native.Nat.{_*_, _≤_, _<_};
+// Runs the cases of the file `cases` and prints a line for each. Cases of requests act on one interface, one
+// after the other.
+ghost use Prim.Native.Nat.{_*_, _≤_};
 ghost use lib.ListN.{length};
-ghost use Rattle.message_vectors.specs.Cases.{Within};
 
 mod answers;
 
 use answers::print_ack_answer;
 use answers::print_carried;
 use answers::print_written;
+use cases::Case;
+use cases::case_at;
+use cases::print_cut;
+use cases::wide;
 use frontend::Written;
-use libc::STDOUT_FILENO;
 use messages::MAX_PAYLOAD;
 use messages::Settings;
-
-// Where a case's body stands and ends; or a case cut short.
-enum Case {
-    Body { start: usize, end: usize },
-    Cut,
-}
 
 // The kinds: a new interface with a queue count, a request carried out, the writer's four calls, and an ack
 // read.
@@ -41,15 +37,8 @@ const MAX_BUFFER: usize = 1100;
 const MAX_GIVEN: usize = 256;
 
 fn main() {
-    let name = b"cases";
-    let file = os::open_read(name);
-    if file < 0 {
-        os::fail(name);
-        return;
-    }
     let mut buffer = io::large_buffer();
-    let n = io::read_full(file, &mut buffer);
-    libc::close(file);
+    let n = cases::load(&mut buffer);
     run(&buffer[..n]);
 }
 
@@ -64,41 +53,11 @@ fn run(cases: &[u8]) {
                 at = end;
             }
             Case::Cut => {
-                print(b"cut\n");
+                print_cut();
                 return;
             }
         }
     }
-}
-
-fn print(octets: &[u8]) {
-    io::write_all(STDOUT_FILENO, octets);
-}
-
-fn case_at(cases: &[u8], at: usize) -> Case
-    ensures { λ r. ⌜ Within (length (now (cases .entry))) at r ⌝ }
-{
-    if cases.len() < 3 {
-        return Case::Cut;
-    }
-    if cases.len() - 3 < at {
-        return Case::Cut;
-    }
-    let start = at + 3;
-    let n = wide(cases[at + 1]) + 256 * wide(cases[at + 2]);
-    if cases.len() - start < n {
-        return Case::Cut;
-    }
-    Case::Body {
-        start,
-        end: start + n,
-    }
-}
-
-fn wide(x: u8) -> usize
-    ensures { λ r. ⌜ r < 256 ⌝ }
-{
-    x as usize
 }
 
 // Answers one case, and hands back the settings that it leaves.
@@ -110,7 +69,7 @@ fn answer(settings: Settings, kind: u8, body: &[u8]) -> Settings {
         return request(settings, body);
     }
     if body.len() < 2 {
-        print(b"cut\n");
+        print_cut();
         return settings;
     }
     if kind <= WRITE_SET_MAPPING {
@@ -165,7 +124,7 @@ fn write(kind: u8, body: &[u8])
 {
     let room = wide(body[0]) + 256 * wide(body[1]);
     if room > MAX_BUFFER {
-        print(b"cut\n");
+        print_cut();
         return;
     }
     let mut buffer = [165u8; MAX_BUFFER];
@@ -227,7 +186,7 @@ fn entries_in(given: &[u8], count: usize) -> [u64; MAX_GIVEN]
 // The type of the request, and the message to read.
 fn read(body: &[u8]) {
     if body.len() < 4 {
-        print(b"cut\n");
+        print_cut();
         return;
     }
     print_ack_answer(frontend::read_ack(octets::read_u32(body, 0), &body[4..]));

@@ -1,11 +1,11 @@
--- `hash_vectors::run` ends and reads no octet outside: each case's parts stand in order behind its start.
+-- `hash_vectors::run` ends and reads no octet outside: each case's body stands behind its start.
 -- Assumes nothing.
 use Prim.Native.Nat.{_≤_, _-_}
 use native.Mathlib.Omega.{arith}
 use borrow.Author.Needs.{needs}
 use lib.ListN.{length}
-use Rattle.hash_vectors.specs.Cases.{Within}
-use Rattle.hash_vectors.specs.declared.Case.the-variants.{Parts}
+use Rattle.cases.specs.Cases.{Within}
+use Rattle.cases.specs.declared.Case.the-variants.{Body}
 use Rattle.hash_vectors.proofs.run.Statement.{statement}
 use Rattle.hash_vectors.proofs.run.Tie as tie
 
@@ -17,9 +17,9 @@ abbrev μ-loop : tie.MeasureT-loop
 
 -- where the case was found whole
 module _ (d : tie.After-case Inv-loop μ-loop) where
-  parts : Within (length (d .before .before .before .before .before .before .args .cases .now)) (d .before .before .before .before .loop .at)
-      (Parts (d .case .given .0 .0) (d .case .given .0 .1 .0) (d .case .given .0 .1 .1 .0))
-  parts = rw (d .case .given .1) at (d .before .before .case-at .ensures)
+  body : Within (length (d .before .before .before .before .before .before .args .cases .now))
+      (d .before .before .before .before .loop .at) (Body (d .case .given .0 .0) (d .case .given .0 .1 .0))
+  body = rw (d .case .given .1) at (d .before .before .case-at .ensures)
 
 pub run-spec : {M : Type 1} → statement M
 run-spec =
@@ -31,15 +31,12 @@ run-spec =
     (λ c κs. search needs)
     (λ c. search needs)
     (λ c. search needs)
-    (λ c. omega (arith, parts (c .before .before)))
-    (λ c. omega (arith, parts (c .before .before)))
-    (λ c. omega (arith, parts (c .before .before)))
-    (λ c. omega (arith, parts (c .before .before .before)))
-    (λ c. omega (arith, parts (c .before .before .before)))
-    (λ c. omega (arith, parts (c .before .before .before)))
+    (λ c. omega (arith, body (c .before .before)))
+    (λ c. omega (arith, body (c .before .before)))
+    (λ c. omega (arith, body (c .before .before)))
     (λ c κs. search needs)
-    (λ c. omega (arith, parts (c .before .before .before .before .before)))
-    (λ c. omega (arith, parts (c .before .before .before .before .before)))
+    (λ c. omega (arith, body (c .before .before .before .before)))
+    (λ c. omega (arith, body (c .before .before .before .before)))
     (λ c. search needs)
     (λ c κs. search needs)
     (λ c. search needs)

@@ -4,16 +4,16 @@ use Prim.Native.Nat.{_≤_, _-_}
 use native.Mathlib.Omega.{arith}
 use borrow.Author.Needs.{needs}
 use lib.ListN.{length}
-use Rattle.message_vectors.specs.Cases.{Within}
-use Rattle.message_vectors.specs.declared.Case.the-variants.{Body}
+use Rattle.cases.specs.Cases.{Within}
+use Rattle.cases.specs.declared.Case.the-variants.{Body}
 use Rattle.message_vectors.proofs.run.Statement.{statement}
 use Rattle.message_vectors.proofs.run.Tie as tie
 
 abbrev Inv-loop : tie.InvT-loop
-Inv-loop cases settings₀ at₀ t7 settings at = at ≤ length cases
+Inv-loop cases settings₀ at₀ settings at = at ≤ length cases
 
 abbrev μ-loop : tie.MeasureT-loop
-μ-loop cases settings₀ at₀ t7 settings at = length cases - at
+μ-loop cases settings₀ at₀ settings at = length cases - at
 
 -- where the case was found whole
 module _ (d : tie.After-case Inv-loop μ-loop) where
@@ -38,7 +38,6 @@ run-spec =
     (λ c κs. search needs)
     (λ c. omega (arith, body (c .before .before .before .before)))
     (λ c. omega (arith, body (c .before .before .before .before)))
-    (λ c. search needs)
     (λ c. search needs)
     (λ c κs. search needs)
     (λ c. search needs)

@@ -1,8 +1,8 @@
 -- Where the body of a case stands.
 -- Assumes nothing.
 use Prim.Native.Nat.{ℕ, _≤_, _<_}
-use Rattle.message_vectors.specs.declared.Case.{Case}
-use Rattle.message_vectors.specs.declared.Case.the-variants.{Body, Cut}
+use Rattle.cases.specs.declared.Case.{Case}
+use Rattle.cases.specs.declared.Case.the-variants.{Body, Cut}
 
 -- behind the place where the case begins, and within the length of all
 abbrev pub Within : ℕ → ℕ → Case → Type 0

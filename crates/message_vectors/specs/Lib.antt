@@ -1,2 +1,0 @@
--- The definitions that the contracts of `message_vectors` cite.
-pub mod Cases
