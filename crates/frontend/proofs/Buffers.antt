@@ -2,22 +2,18 @@
 -- Assumes nothing.
 use mathlib.Core.Path.{_≡_, refl, sym, ap, ap₂, _∙_}
 use mathlib.Core.List.{List, [], _∷_, _++_, append-assoc, append-nil}
-use mathlib.Core.Bool.{true, false, and-true, and-false}
 use Prim.Native.Nat.{ℕ, _+_, _*_, _≤_, _<_}
 use native.Mathlib.Nat.{zero-add}
 use native.Mathlib.Numerals.{add-one}
 use native.Mathlib.Omega.{arith}
 use lib.ListN.{length, getD, take, drop, length-append, drop-of-length-le, take-append-drop}
 use lib.Seq.{sets, sets-eq, take-at, drop-at, drop-drop, take-suc, take-all, length-take-le}
-use lib.Dec.{leb}
-use borrow.Author.Tests.{le-leb, lt-leb, leb-true}
+use borrow.Author.Tests.{le-leb, lt-leb}
 use Rattle.octets.specs.Numbers.{octetsOf}
 use Rattle.octets.specs.Outcome.{value, refused}
 use Rattle.octets.proofs.Copies.{sets-append, sets-all}
 use Rattle.octets.proofs.Numbers.{length-octets}
-use Rattle.octets.proofs.Truth.{both-true}
 use Rattle.messages.specs.Wire.{headerSize, fieldSize, header, message}
-use Rattle.messages.specs.Settings.{maxEntries, isPowerOfTwo, isListed}
 use Rattle.messages.proofs.Parts.{length-header, message-is, length-message}
 use Rattle.frontend.specs.Refusals.{bufferTooShort}
 use Rattle.frontend.specs.Writer.{fieldsOf, written}
@@ -120,16 +116,3 @@ pub fields-all : (xs b b′ : List ℕ) (k : ℕ) → length xs ≤ k → length
     → b′ ≡ fieldsOf (take k xs) ++ drop (k * fieldSize) b → b′ ≡ fieldsOf xs
 fields-all xs b b′ k l long e =
     e ∙ simp (take-all k xs l, drop-of-length-le b {i = k * fieldSize} (omega arith), append-nil)
-
--- a listed length is a power of two that is at most 128
-pub too-many : (n : ℕ) → maxEntries < n → false ≡ isListed n
-unfolding isListed
-too-many n h = rw (lt-leb _ _ h) (sym (and-false (isPowerOfTwo n)))
-
-pub listed-power : (n : ℕ) → n ≤ maxEntries → isPowerOfTwo n ≡ isListed n
-unfolding isListed
-listed-power n h = rw (le-leb _ _ h) (sym (and-true (isPowerOfTwo n)))
-
-pub listed-most : (n : ℕ) → isListed n ≡ true → n ≤ maxEntries
-unfolding isListed
-listed-most n e = leb-true _ _ (both-true (isPowerOfTwo n) (leb n maxEntries) .0 e .1)

@@ -7,21 +7,20 @@ use Prim.Native.Nat.{ℕ, _*_, _/_, _%_, _^_, _≤_}
 use native.Mathlib.Omega.{arith}
 use lib.ListN.{length}
 use lib.Seq.{take-at}
-use lib.Dec.{leb}
 use Rattle.octets.specs.Numbers.{numberAt, octetsOf}
 use Rattle.octets.proofs.Numbers.{length-octets, number-octets}
-use Rattle.octets.proofs.Truth.{both-true}
 use Rattle.toeplitz.specs.Hash.{keyLength}
 use Rattle.messages.specs.Wire.{fieldSize, message, getFlagsType, setFlagsType, setKeyType, setMappingType, success, invalidParameter, allFlags}
 use Rattle.messages.specs.Settings.{maxEntries, isPowerOfTwo, isListed, EachBelow, mappingOf}
 use Rattle.messages.specs.Requests.{setMapping, requestOf, entriesIn, allBelow, withFlags, withKey}
 use Rattle.messages.specs.Requests.{withMapping, answered, answeredFlags, carriedBy, carriedMessage}
 use Rattle.messages.specs.declared.Settings.{Settings}
+use Rattle.messages.proofs.Powers.{listed-parts}
 use Rattle.messages.proofs.Parts.{carried-message}
 use Rattle.messages.proofs.Statuses.{get-flags-done, set-flags-done, set-key-done, set-mapping-entry, set-mapping-done}
 use Rattle.messages.proofs.Effects.{carried-refused, carried-flags, flags-set, key-set, mapping-set}
 use Rattle.frontend.specs.Writer.{fieldsOf}
-use Rattle.frontend.proofs.Buffers.{length-fields, listed-most}
+use Rattle.frontend.proofs.Buffers.{length-fields}
 use Rattle.frontend.proofs.Fields.{fields-entries}
 
 module _ (s : Settings) (rest : List ℕ) where
@@ -66,11 +65,10 @@ module _ (s : Settings) (es rest : List ℕ) (small : EachBelow (256 ^ fieldSize
   multiple = omega arith
 
   power : isPowerOfTwo (size / fieldSize) ≡ true
-  unfolding isListed
-  power = rw count (both-true (isPowerOfTwo (length es)) (leb (length es) maxEntries) .0 listed .0)
+  power = rw count (listed-parts (length es) .0 listed .0)
 
   few : size / fieldSize ≤ maxEntries
-  few = rw count (listed-most (length es) listed)
+  few = rw count (listed-parts (length es) .0 listed .1)
 
   read : entriesIn (size / fieldSize) p ≡ es
   unfolding p
@@ -92,7 +90,7 @@ module _ (s : Settings) (es rest : List ℕ) (small : EachBelow (256 ^ fieldSize
   unfolding requestOf size p
   set-mapping-carried =
       let long : length (fieldsOf es) ≡ length es * fieldSize = length-fields es in
-      let most = listed-most (length es) listed in
+      let most = listed-parts (length es) .0 listed .1 in
       carried-message s setMappingType (fieldsOf es) rest (omega arith) (rw long (omega arith))
       ∙ ap (λ (n : ℕ). carriedBy setMapping s n (fieldsOf es ++ rest)) long
       ∙ judged (allBelow (s .queues) es) refl

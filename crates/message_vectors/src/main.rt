@@ -106,10 +106,15 @@ fn request(settings: Settings, body: &[u8]) -> Settings {
     carried.settings
 }
 
+// What stands in the host's buffer before a payload comes.
+fn filled() -> [u8; MAX_PAYLOAD] {
+    [238; MAX_PAYLOAD]
+}
+
 fn payload_of(kept: &[u8]) -> [u8; MAX_PAYLOAD]
     requires { ⌜ length (now kept) ≤ 1024 ⌝ }
 {
-    let mut payload = [238u8; MAX_PAYLOAD];
+    let mut payload = filled();
     let mut i: usize = 0;
     while i < kept.len() {
         payload[i] = kept[i];
@@ -127,8 +132,13 @@ fn write(kind: u8, body: &[u8])
         print_cut();
         return;
     }
-    let mut buffer = [165u8; MAX_BUFFER];
+    let mut buffer = blank();
     write_start(&mut buffer, room, kind, &body[2..]);
+}
+
+// What stands in the output buffer before the message.
+fn blank() -> [u8; MAX_BUFFER] {
+    [165; MAX_BUFFER]
 }
 
 // Writes into the first `room` octets of the buffer.

@@ -1,21 +1,21 @@
 -- Good settings: at setup, and after each success.
 -- Assumes nothing.
-use mathlib.Core.Path.{_≡_, refl, sym, ap, _∙_, subst}
+use mathlib.Core.Path.{_≡_, sym, ap, _∙_, subst}
 use mathlib.Core.List.{List, [], _∷_}
 use mathlib.Core.Bool.{true}
 use Prim.Native.Nat.{ℕ, zero, suc, _+_, _-_, _/_, _≤_}
 use native.Mathlib.Omega.{arith}
 use lib.ListN.{length, length-append, length-replicate}
 use lib.Seq.{take-append-seam, length-take-le}
-use borrow.Author.Tests.{le-leb}
 use Rattle.toeplitz.specs.Hash.{keyLength}
 use Rattle.messages.specs.Wire.{fieldSize, success, allFlags}
-use Rattle.messages.specs.Settings.{maxEntries, isPowerOfTwo, isListed, EachBelow}
+use Rattle.messages.specs.Settings.{maxEntries, isPowerOfTwo, EachBelow}
 use Rattle.messages.specs.Settings.{tableOf, mappingOf, GoodMapping, Good}
 use Rattle.messages.specs.Requests.{Request, getFlags, setFlags, setKey, setMapping, none, flagsIn, keyIn, entriesIn, statusOf}
 use Rattle.messages.specs.Requests.{withFlags, withKey, withMapping, replaced}
 use Rattle.messages.specs.declared.Mapping.{Mapping}
 use Rattle.messages.specs.declared.Settings.{Settings}
+use Rattle.messages.proofs.Powers.{listed-parts}
 use Rattle.messages.proofs.Tables.{length-entries, all-below-exactly}
 use Rattle.messages.proofs.Statuses.{set-flags-exactly, set-mapping-exactly}
 
@@ -26,14 +26,10 @@ table-stored table = take-append-seam table _
 length-stored : (table : List ℕ) → length table ≤ maxEntries → length (mappingOf table .entries) ≡ maxEntries
 length-stored table h = length-append table _ ∙ ap (λ (n : ℕ). length table + n) (length-replicate (maxEntries - length table) 0) ∙ omega arith
 
-count-listed : (n : ℕ) → isPowerOfTwo n ≡ true → n ≤ maxEntries → isListed n ≡ true
-unfolding isListed
-count-listed n e l = rw (e, le-leb _ _ l) refl
-
 pub good-mapping : (q : ℕ) (table : List ℕ) → isPowerOfTwo (length table) ≡ true → length table ≤ maxEntries
     → EachBelow q table → GoodMapping q (mappingOf table)
 good-mapping q table e l h =
-    record { size = length-stored table l; listed = count-listed (length table) e l; below = subst (EachBelow q) (sym (table-stored table)) h }
+    record { size = length-stored table l; listed = listed-parts (length table) .1 (e, l); below = subst (EachBelow q) (sym (table-stored table)) h }
 
 pub first-table : (q : ℕ) → 1 ≤ q → EachBelow q (0 ∷ [])
 first-table q some zero l = some

@@ -1,17 +1,18 @@
--- Powers of two: `isPowerOfTwo` means what it says, and is told by n AND (n - 1).
+-- Powers of two: `isPowerOfTwo` means what it says, and is told by n AND (n - 1); and the listed lengths.
 -- Assumes nothing.
 use mathlib.Core.Path.{_≡_, refl, sym, ap, _∙_}
 use mathlib.Core.Logic.{_↔_}
-use mathlib.Core.Bool.{Bool, true, false, cond, false≢true}
-use Prim.Native.Nat.{ℕ, zero, suc, _-_, _/_, _%_, _^_, _<_}
+use mathlib.Core.Bool.{Bool, true, false, cond, false≢true, and-true, and-false}
+use Prim.Native.Nat.{ℕ, zero, suc, _-_, _/_, _%_, _^_, _≤_, _<_}
 use native.Mathlib.Nat.{pow-suc, mod-self}
 use native.Mathlib.Omega.{arith}
 use lib.Arith.{bin-ind, lt-of-le-ne}
 use lib.Bits.{bitAnd, and-mask, and-step, and-self}
-use lib.Dec.{eqb}
-use borrow.Author.Tests.{eq-eqb, eqb-true, eqb-false}
-use Rattle.octets.proofs.Truth.{same-truth}
-use Rattle.messages.specs.Settings.{isPowerBelow, isPowerOfTwo}
+use lib.Pow.{pow-lt}
+use lib.Dec.{eqb, leb}
+use borrow.Author.Tests.{eq-eqb, eqb-true, eqb-false, le-leb, lt-leb, leb-true, leb-false}
+use Rattle.octets.proofs.Truth.{same-truth, both-true}
+use Rattle.messages.specs.Settings.{maxEntries, isPowerBelow, isPowerOfTwo, isListed}
 
 -- n is a power of two
 abbrev pub IsPower : ℕ → Type 0
@@ -76,3 +77,28 @@ and-power = bin-ind (λ (n : ℕ). 0 < n → bitAnd n (n - 1) ≡ 0 → IsPower 
 
 pub power-told : (n : ℕ) → 0 < n → eqb (bitAnd n (n - 1)) 0 ≡ isPowerOfTwo n
 power-told n l = same-truth _ _ (λ h. power-exactly n .1 (and-power n l (eqb-true _ _ h))) (λ h. eq-eqb _ _ (power-and n (power-exactly n .0 h)))
+
+-- of two powers, the smaller has the smaller exponent
+pub exponent-most : (k j : ℕ) → 2 ^ k ≤ 2 ^ j → k ≤ j
+exponent-most k j h = by (leb k j) refl
+  where
+    by : (t : Bool) → leb k j ≡ t → k ≤ j
+    by true e = leb-true _ _ e
+    by false e =
+        let more : 2 ^ j < 2 ^ k = pow-lt (leb-false _ _ e) in
+        absurd (omega arith)
+
+-- a listed length is a power of two that is at most 128
+pub listed-parts : (n : ℕ) → (isListed n ≡ true) ↔ ((isPowerOfTwo n ≡ true) × (n ≤ maxEntries))
+unfolding isListed
+listed-parts n =
+    let x = both-true (isPowerOfTwo n) (leb n maxEntries) in
+    (λ e. (x .0 e .0, leb-true _ _ (x .0 e .1)), λ p. x .1 (p .0, le-leb _ _ (p .1)))
+
+pub listed-power : (n : ℕ) → n ≤ maxEntries → isPowerOfTwo n ≡ isListed n
+unfolding isListed
+listed-power n h = rw (le-leb _ _ h) (sym (and-true (isPowerOfTwo n)))
+
+pub listed-few : (n : ℕ) → maxEntries < n → false ≡ isListed n
+unfolding isListed
+listed-few n h = rw (lt-leb _ _ h) (sym (and-false (isPowerOfTwo n)))

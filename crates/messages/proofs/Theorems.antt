@@ -1,22 +1,26 @@
 -- What readers ask of the host's messages, over the definitions alone. A contract says that the call answers what
 -- `carriedOut` says; these say what that means.
 -- Assumes nothing.
-use mathlib.Core.Path.{_≡_, refl, ap, _∙_}
+use mathlib.Core.Path.{_≡_, refl, sym, ap, _∙_}
+use mathlib.Core.Logic.{_↔_}
+use mathlib.Core.Bool.{true}
 use mathlib.Core.List.{List, [], _∷_}
 use Prim.Native.Nat.{ℕ, _^_, _≤_, _<_}
 use native.Mathlib.Omega.{arith}
 use lib.ListN.{length, take}
 use lib.Seq.{take-append-seam}
+use lib.Pow.{pow-mono}
 use Rattle.octets.proofs.Numbers.{number-octets-alone}
 use Rattle.toeplitz.specs.Hash.{keyLength}
 use Rattle.messages.specs.Wire.{maxPayload, fieldSize, message, statusIn, ackType, success}
-use Rattle.messages.specs.Settings.{maxQueues, isPowerBelow, isPowerOfTwo, settingsAtSetup, Good}
-use Rattle.messages.specs.Requests.{requestOf, statusOf, statusPayload, ackPayload, ackIn, ackStatus, answered, carriedBy, carriedOut}
+use Rattle.messages.specs.Settings.{maxQueues, isPowerBelow, isPowerOfTwo, isListed, settingsAtSetup, Good}
+use Rattle.messages.specs.Requests.{requestOf, statusOf, replaced, statusPayload, ackPayload, ackIn, ackStatus, answered, carriedBy, carriedOut}
 use Rattle.messages.specs.declared.Settings.{Settings}
+use Rattle.messages.proofs.Powers.{power-exactly, listed-parts, exponent-most}
 use Rattle.messages.proofs.Parts.{number-payload}
 use Rattle.messages.proofs.AckOctets.{payload-status}
 use Rattle.messages.proofs.Statuses.{status-most}
-use Rattle.messages.proofs.Effects.{settings-refused, settings-either, replaced-queues}
+use Rattle.messages.proofs.Effects.{settings-refused, settings-done, settings-either, replaced-queues}
 use Rattle.messages.proofs.Goodness.{good-mapping, first-table, good-replaced}
 use Rattle.messages.proofs.Looks.{carried-same}
 
@@ -36,6 +40,10 @@ module _ (s : Settings) (t n : ℕ) (p : List ℕ) where
   -- demand 1: a request acked with a nonzero status leaves key, mapping and flags as they stood
   pub refused-keeps-settings : (ackStatus (carriedOut s t n p) ≡ success → ⊥) → carriedOut s t n p .settings ≡ s
   refused-keeps-settings h = settings-refused (requestOf t) s n p (λ e. h (ack-carries-status ∙ e))
+
+  -- a success replaces the setting whole, and no other
+  pub success-replaces : ackStatus (carriedOut s t n p) ≡ success → carriedOut s t n p .settings ≡ replaced (requestOf t) s n p
+  success-replaces e = settings-done (requestOf t) s n p (sym ack-carries-status ∙ e)
 
   -- no request changes the queue count
   pub queues-stay : carriedOut s t n p .settings .queues ≡ s .queues
@@ -70,3 +78,16 @@ good-at-setup q some most =
       key = refl;
       mapping = good-mapping q (0 ∷ []) refl (omega arith) (first-table q some);
     }
+
+-- the listed mapping lengths are 2 ^ 0, 2 ^ 1, .. 2 ^ 7
+pub listed-exactly : (n : ℕ) → (isListed n ≡ true) ↔ ((k : ℕ) × (k ≤ 7) × (n ≡ 2 ^ k))
+listed-exactly n = (to, from)
+  where
+    to : isListed n ≡ true → (k : ℕ) × (k ≤ 7) × (n ≡ 2 ^ k)
+    to e =
+        let x = listed-parts n .0 e in
+        let p = power-exactly n .0 (x .0) in
+        (p .0, exponent-most (p .0) 7 (rw (← p .1) (x .1)), p .1)
+
+    from : ((k : ℕ) × (k ≤ 7) × (n ≡ 2 ^ k)) → isListed n ≡ true
+    from (k, l, e) = listed-parts n .1 (power-exactly n .1 (k, e), rw e (pow-mono l))

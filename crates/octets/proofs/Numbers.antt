@@ -8,7 +8,7 @@ use native.Mathlib.Nat.{add-zero, suc-add, zero-add, add-assoc, one-mul, mul-add
 use native.Mathlib.Nat.{div-one, div-div-eq-div-mul, div-lt-iff-lt-mul, mod-lt, mod-eq-of-lt, div-eq-of-lt, mod-add-div, pow-le-pow-right}
 use native.Mathlib.Omega.{arith}
 use lib.Arith.{mod-mul, digits-div, digits-mod}
-use lib.ListN.{length, getD, take, drop, set, replicate, List·getD-append}
+use lib.ListN.{length, getD, take, drop, set, replicate}
 use lib.Seq.{getD-append-add, getD-drop, drop-cons, sets}
 use Rattle.octets.proofs.Copies.{sets-append}
 use Rattle.octets.specs.Numbers.{AreOctets, numberAt, octetsOf}
@@ -50,10 +50,7 @@ number-same (suc n) xs ys i j h =
     next : (i k : ℕ) → i + 1 + k ≡ i + suc k
     next i k = omega arith
 
--- octets at the start of a list, and behind another
-pub number-front : (n : ℕ) (xs ys : List ℕ) (i : ℕ) → i + n ≤ length xs → numberAt n (xs ++ ys) i ≡ numberAt n xs i
-number-front n xs ys i h = number-same n (xs ++ ys) xs i i (λ k l. List·getD-append xs ys 0 (i + k) (omega arith))
-
+-- octets behind other octets, and from a place on
 pub number-behind : (n : ℕ) (xs ys : List ℕ) (i : ℕ) → numberAt n (xs ++ ys) (length xs + i) ≡ numberAt n ys i
 number-behind n xs ys i = number-same n (xs ++ ys) ys (length xs + i) i (λ k l. rw add-assoc (getD-append-add xs ys (i + k) 0))
 

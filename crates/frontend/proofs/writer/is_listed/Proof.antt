@@ -2,12 +2,12 @@
 -- Assumes nothing.
 use mathlib.Core.Path.{_∙_}
 use borrow.Author.Needs.{needs}
-use Rattle.frontend.proofs.Buffers.{too-many, listed-power}
+use Rattle.messages.proofs.Powers.{listed-few, listed-power}
 use Rattle.frontend.proofs.writer.is_listed.Statement.{statement}
 use Rattle.frontend.proofs.writer.is_listed.Tie as tie
 
 returns : tie.Need-returns
-returns c = too-many _ (c .if1 .taken)
+returns c = listed-few _ (c .if1 .taken)
 
 returns-2 : tie.Need-returns-2
 returns-2 c = c .is-power-of-two .ensures ∙ listed-power _ (c .before .if1 .left)

@@ -4,8 +4,9 @@ use mathlib.Core.Path.{sym, _∙_}
 use native.Mathlib.Nat.{add-sub-cancel-left}
 use borrow.Author.Needs.{needs}
 use borrow.Author.Tests.{not-true, not-false}
+use Rattle.messages.proofs.Powers.{listed-parts}
 use Rattle.frontend.specs.Writer.{written}
-use Rattle.frontend.proofs.Buffers.{message-short, message-written, length-fields, listed-most}
+use Rattle.frontend.proofs.Buffers.{message-short, message-written, length-fields}
 use Rattle.frontend.proofs.writer.write_set_mapping.Statement.{statement}
 use Rattle.frontend.proofs.writer.write_set_mapping.Tie as tie
 
@@ -22,7 +23,7 @@ returns-2 c =
 cast-write-header : tie.Need-cast-write-header
 cast-write-header c =
     let test = c .before .before in
-    let most = listed-most _ (sym (test .before .is-listed .ensures) ∙ not-false _ (test .if1 .left)) in
+    let most = listed-parts _ .0 (sym (test .before .is-listed .ensures) ∙ not-false _ (test .if1 .left)) .1 in
     search needs
 
 returns-3 : tie.Need-returns-3
