@@ -31,7 +31,7 @@ use Rattle.frontend.specs.Writer.{fieldsOf, getFlagsMessage, setFlagsMes
 use Rattle.frontend.specs.declared.Written.{Written}
 use Rattle.frontend.specs.declared.Written.the-variants.{Length, KeyLength, Value, Buffer}
 use Rattle.frontend.specs.declared.AckAnswer.{AckAnswer}
-use Rattle.frontend.specs.declared.AckAnswer.the-variants.{Status, Flags, Other}
+use Rattle.frontend.specs.declared.AckAnswer.the-variants.{Status, Flags, NotAnAck}
 use Rattle.frontend.proofs.Buffers.{length-fields}
 use Rattle.frontend.proofs.Leaves.{refused-keeps, message-left, message-refused, answer-short, refuses-first}
 use Rattle.frontend.proofs.Judged.{get-flags-carried, set-flags-carried, set-key-carried, set-mapping-carried}
@@ -56,13 +56,13 @@ written-answer-determined r s e = sym (written-answer-back r) ∙ ap written-ans
 unfoldable ack-answer : Outcome Reading → AckAnswer
 ack-answer (value (status st)) = Status st
 ack-answer (value (statusAndFlags st flags)) = Flags flags
-ack-answer (refused k) = Other
+ack-answer (refused k) = NotAnAck
 
 ack-answer-back : (r : AckAnswer) → ack-answer (ackOutcomeOf r) ≡ r
 unfolding ack-answer
 ack-answer-back (Status st) = refl
 ack-answer-back (Flags flags) = refl
-ack-answer-back Other = refl
+ack-answer-back NotAnAck = refl
 
 pub ack-answer-determined : (r s : AckAnswer) → ackOutcomeOf r ≡ ackOutcomeOf s → r ≡ s
 ack-answer-determined r s e = sym (ack-answer-back r) ∙ ap ack-answer e ∙ ack-answer-back s

@@ -12,7 +12,7 @@ use Rattle.messages.specs.Wire.{success, notSupported, bufferOverflow, allFlags
 use Rattle.messages.specs.Requests.{Request, getFlags, setFlags, setKey, setMapping, none, requestOf, carriesFlags}
 use Rattle.frontend.specs.Refusals.{notAnAck}
 use Rattle.frontend.specs.declared.AckAnswer.{AckAnswer}
-use Rattle.frontend.specs.declared.AckAnswer.the-variants.{Status, Flags, Other}
+use Rattle.frontend.specs.declared.AckAnswer.the-variants.{Status, Flags, NotAnAck}
 
 -- what an ack says: a status, and with it any flags
 pub data Reading : Type 0 where
@@ -53,7 +53,7 @@ readAck t m = cond (isAckTo (requestOf t) m) (value (readingOf (requestOf t) m))
 abbrev pub ackOutcomeOf : AckAnswer → Outcome Reading
 ackOutcomeOf (Status st) = value (status st)
 ackOutcomeOf (Flags flags) = value (statusAndFlags success flags)
-ackOutcomeOf Other = refused notAnAck
+ackOutcomeOf NotAnAck = refused notAnAck
 
 -- what the host's ack to a request says, by its status
 abbrev pub answerTo : Request → ℕ → Reading

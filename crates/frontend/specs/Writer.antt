@@ -35,12 +35,12 @@ setMappingMessage entries =
     cond (isListed (length entries)) (value (message setMappingType (fieldsOf entries))) (refused valueNotListed)
 
 -- what a call of the writer answers, and the octets of the buffer that it leaves
-pub record Left : Type 0 where
+pub record After : Type 0 where
   pub answer : Outcome ℕ
   pub buffer : List ℕ
 
 -- a message goes to the start of the buffer, and the octets behind it stay; a refusal leaves all as it was
-unfoldable pub written : Outcome (List ℕ) → List ℕ → Left
+unfoldable pub written : Outcome (List ℕ) → List ℕ → After
 written (value m) buffer =
     cond (leb (length m) (length buffer))
     (record { answer = value (length m); buffer = m ++ drop (length m) buffer })
@@ -54,5 +54,5 @@ writtenOutcomeOf KeyLength = refused keyLengthWrong
 writtenOutcomeOf Value = refused valueNotListed
 writtenOutcomeOf Buffer = refused bufferTooShort
 
-abbrev pub left : Written → List ℕ → Left
-left r buffer = record { answer = writtenOutcomeOf r; buffer = buffer }
+abbrev pub after : Written → List ℕ → After
+after r buffer = record { answer = writtenOutcomeOf r; buffer = buffer }

@@ -33,5 +33,5 @@ pub enum AckAnswer {
     // Status 0, and the flags that the host supports.
     Flags(u8),
     // Not an ack to this request.
-    Other,
+    NotAnAck,
 }

@@ -20,31 +20,31 @@ pub fn read_ack(kind: u32, message: &[u8]) -> AckAnswer
     ensures { λ r. ⌜ ackOutcomeOf r ≡ readAck kind (now (message .entry)) ⌝ }
 {
     if message.len() < HEADER + FIELD {
-        return AckAnswer::Other;
+        return AckAnswer::NotAnAck;
     }
     if octets::read_u32(message, 0) != ACK_TYPE {
-        return AckAnswer::Other;
+        return AckAnswer::NotAnAck;
     }
     let size = octets::read_u32(message, SIZE_AT) as usize;
     if message.len() - HEADER != size {
-        return AckAnswer::Other;
+        return AckAnswer::NotAnAck;
     }
     let status = octets::read_u64(message, HEADER);
     if carries_flags(kind, status) {
         if size != FIELD + FIELD {
-            return AckAnswer::Other;
+            return AckAnswer::NotAnAck;
         }
         let flags = octets::read_u64(message, HEADER + FIELD);
         if flags > ALL_FLAGS as u64 {
-            return AckAnswer::Other;
+            return AckAnswer::NotAnAck;
         }
         return AckAnswer::Flags(flags as u8);
     }
     if size != FIELD {
-        return AckAnswer::Other;
+        return AckAnswer::NotAnAck;
     }
     if !is_allowed(kind, status) {
-        return AckAnswer::Other;
+        return AckAnswer::NotAnAck;
     }
     AckAnswer::Status(status as u8)
 }

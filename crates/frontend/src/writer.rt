@@ -6,7 +6,7 @@ ghost use Prim.Native.Nat.{_+_, _*_, _≤_};
 ghost use lib.ListN.{length, drop};
 ghost use Rattle.messages.specs.Wire.{headerSize, fieldSize, header};
 ghost use Rattle.messages.specs.Settings.{isListed};
-ghost use Rattle.frontend.specs.Writer.{fieldsOf, getFlagsMessage, setFlagsMessage, setKeyMessage, setMappingMessage, left, written};
+ghost use Rattle.frontend.specs.Writer.{fieldsOf, getFlagsMessage, setFlagsMessage, setKeyMessage, setMappingMessage, after, written};
 use crate::Written;
 use messages::ALL_FLAGS;
 use messages::FIELD;
@@ -21,7 +21,7 @@ use toeplitz::KEY_LENGTH;
 
 // Asks which flags the host supports.
 pub fn write_get_flags(buffer: &mut [u8]) -> Written
-    ensures { λ r. ⌜ left r (now (buffer .exit)) ≡ written getFlagsMessage (now (buffer .entry)) ⌝ }
+    ensures { λ r. ⌜ after r (now (buffer .exit)) ≡ written getFlagsMessage (now (buffer .entry)) ⌝ }
 {
     if buffer.len() < HEADER {
         return Written::Buffer;
@@ -32,7 +32,7 @@ pub fn write_get_flags(buffer: &mut [u8]) -> Written
 
 // Sets the flags of the hash types to use.
 pub fn write_set_flags(buffer: &mut [u8], flags: u64) -> Written
-    ensures { λ r. ⌜ left r (now (buffer .exit)) ≡ written (setFlagsMessage flags) (now (buffer .entry)) ⌝ }
+    ensures { λ r. ⌜ after r (now (buffer .exit)) ≡ written (setFlagsMessage flags) (now (buffer .entry)) ⌝ }
 {
     if flags > ALL_FLAGS as u64 {
         return Written::Value;
@@ -48,7 +48,7 @@ pub fn write_set_flags(buffer: &mut [u8], flags: u64) -> Written
 
 // Sets the key, octet for octet.
 pub fn write_set_key(buffer: &mut [u8], key: &[u8]) -> Written
-    ensures { λ r. ⌜ left r (now (buffer .exit)) ≡ written (setKeyMessage (now (key .entry))) (now (buffer .entry)) ⌝ }
+    ensures { λ r. ⌜ after r (now (buffer .exit)) ≡ written (setKeyMessage (now (key .entry))) (now (buffer .entry)) ⌝ }
 {
     if key.len() != KEY_LENGTH {
         return Written::KeyLength;
@@ -64,7 +64,7 @@ pub fn write_set_key(buffer: &mut [u8], key: &[u8]) -> Written
 
 // Sets the mapping: the queue of each entry.
 pub fn write_set_mapping(buffer: &mut [u8], entries: &[u64]) -> Written
-    ensures { λ r. ⌜ left r (now (buffer .exit)) ≡ written (setMappingMessage (now (entries .entry))) (now (buffer .entry)) ⌝ }
+    ensures { λ r. ⌜ after r (now (buffer .exit)) ≡ written (setMappingMessage (now (entries .entry))) (now (buffer .entry)) ⌝ }
 {
     let count = entries.len();
     if !is_listed(count) {

@@ -60,7 +60,7 @@ pub fn print_ack_answer(answer: AckAnswer) {
     match answer {
         AckAnswer::Status(status) => number(b"status ", status as u64),
         AckAnswer::Flags(flags) => number(b"status 0 flags ", flags as u64),
-        AckAnswer::Other => number(b"refused ", NOT_AN_ACK as u64),
+        AckAnswer::NotAnAck => number(b"refused ", NOT_AN_ACK as u64),
     }
     word(b"\n");
 }
