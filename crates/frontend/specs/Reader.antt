@@ -35,13 +35,15 @@ ackSize r st = cond (carriesFlags r st) (fieldSize + fieldSize) fieldSize
 abbrev pub flagsAllowed : Request → List ℕ → Bool
 flagsAllowed r m = cond (carriesFlags r (statusIn m)) (leb (ackFlagsIn m) allFlags) true
 
--- the messages that are an ack to a request
+-- document 01's ack to a request: as long as its size says, of type 1, with a status that the request can get, and with
+-- the size and flags that go with the status
 unfoldable pub isAckTo : Request → List ℕ → Bool
 isAckTo r m =
     eqb (length m) (headerSize + sizeIn m)
     && (eqb (typeIn m) ackType
     && (statusAllowed r (statusIn m) && (eqb (sizeIn m) (ackSize r (statusIn m)) && flagsAllowed r m)))
 
+-- what it says
 abbrev pub readingOf : Request → List ℕ → Reading
 readingOf r m = cond (carriesFlags r (statusIn m)) (statusAndFlags (statusIn m) (ackFlagsIn m)) (status (statusIn m))
 

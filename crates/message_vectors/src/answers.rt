@@ -12,7 +12,7 @@ use messages::Settings;
 use toeplitz::KEY_LENGTH_WRONG;
 
 // The octets of the ack, and the settings left: what fills a line is given by its digest.
-pub fn print_carried(carried: Carried) {
+pub(crate) fn print_carried(carried: Carried) {
     print_ack(carried.ack);
     print_settings(carried.settings);
 }
@@ -45,7 +45,7 @@ fn print_settings(settings: Settings) {
 }
 
 // The answer, and a digest of the whole buffer.
-pub fn print_written(written: Written, buffer: &[u8]) {
+pub(crate) fn print_written(written: Written, buffer: &[u8]) {
     match written {
         Written::Length(n) => number(b"length ", n as u64),
         Written::KeyLength => number(b"refused ", KEY_LENGTH_WRONG as u64),
@@ -56,7 +56,7 @@ pub fn print_written(written: Written, buffer: &[u8]) {
     word(b"\n");
 }
 
-pub fn print_ack_answer(answer: AckAnswer) {
+pub(crate) fn print_ack_answer(answer: AckAnswer) {
     match answer {
         AckAnswer::Status(status) => number(b"status ", status as u64),
         AckAnswer::Flags(flags) => number(b"status 0 flags ", flags as u64),

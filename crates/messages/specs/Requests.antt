@@ -79,13 +79,14 @@ replaced setKey s n p = withKey s (keyIn p)
 replaced setMapping s n p = withMapping s (mappingOf (entriesIn (n / fieldSize) p))
 replaced none s n p = s
 
--- an ack's payload: a status, and for a successful get flags the flags that are supported
+-- the two kinds of an ack's payload: a status alone, and success with flags
 abbrev pub statusPayload : ℕ → List ℕ
 statusPayload status = octetsOf fieldSize status
 
 abbrev pub flagsPayload : ℕ → List ℕ
 flagsPayload flags = octetsOf fieldSize success ++ octetsOf fieldSize flags
 
+-- whether the ack to a request with a status has flags: only that of a successful get flags
 abbrev pub carriesFlags : Request → ℕ → Bool
 carriesFlags getFlags status = eqb status success
 carriesFlags setFlags status = false
@@ -93,6 +94,7 @@ carriesFlags setKey status = false
 carriesFlags setMapping status = false
 carriesFlags none status = false
 
+-- the payload of the ack to a request: its status, and for a successful get flags what is supported, not what is set
 abbrev pub ackPayload : Request → ℕ → List ℕ
 ackPayload r status = cond (carriesFlags r status) (flagsPayload allFlags) (statusPayload status)
 

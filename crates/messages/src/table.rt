@@ -3,6 +3,7 @@
 ghost use mathlib.Core.Path.{_≡_};
 ghost use Prim.Native.Nat.{_*_, _≤_};
 ghost use lib.ListN.{length};
+ghost use Rattle.messages.specs.Wire.{fieldSize};
 ghost use Rattle.messages.specs.Settings.{maxEntries, isPowerOfTwo};
 ghost use Rattle.messages.specs.Inner.{Builds};
 use crate::FIELD;
@@ -17,7 +18,7 @@ pub struct Built {
 
 // The mapping of the first `count` entries of the payload, if each is below the queue count.
 pub fn build(payload: &[u8], count: u8, queues: u8) -> Built
-    requires { ⌜ (count * 8 ≤ length (now payload)) × (count ≤ maxEntries) ⌝ }
+    requires { ⌜ (count * fieldSize ≤ length (now payload)) × (count ≤ maxEntries) ⌝ }
     ensures { λ r. ⌜ Builds queues count (now (payload .entry)) r ⌝ }
 {
     let mut entries = [0u8; MAX_ENTRIES];
@@ -43,6 +44,7 @@ pub fn build(payload: &[u8], count: u8, queues: u8) -> Built
     }
 }
 
+// Whether n is 1, 2, 4, 8, ..
 pub fn is_power_of_two(n: u32) -> bool
     ensures { λ r. ⌜ r ≡ isPowerOfTwo n ⌝ }
 {
