@@ -2,7 +2,7 @@
 // written first and the payload behind it, each into its own part of the buffer.
 ghost use mathlib.Core.Path.{_≡_};
 ghost use mathlib.Core.List.{_++_};
-ghost use Prim.Native.Nat.{_+_, _*_, _≤_};
+ghost use Prim.Native.Nat.{_*_, _≤_};
 ghost use lib.ListN.{length, drop};
 ghost use Rattle.messages.specs.Wire.{headerSize, fieldSize, header};
 ghost use Rattle.messages.specs.Settings.{isListed};

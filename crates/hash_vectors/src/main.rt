@@ -1,7 +1,5 @@
 // Runs the cases of the file `cases` and prints a line for each answer. A case's body is the length of its
 // first part, an octet, and then its two parts.
-ghost use Prim.Native.Nat.{_≤_};
-ghost use lib.ListN.{length};
 use cases::Case;
 use cases::case_at;
 use cases::print_cut;

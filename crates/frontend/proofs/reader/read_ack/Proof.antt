@@ -1,11 +1,12 @@
 -- `frontend::reader::read_ack` meets its contract: each test on the way to a return is one of what an ack asks for.
 -- Assumes nothing.
 use mathlib.Core.Path.{sym, ap, _∙_}
-use Prim.Native.Nat.{ℕ, _≤_}
+use Prim.Native.Nat.{ℕ, _≤_, _<_}
+use native.Mathlib.Omega.{arith}
 use borrow.Author.Needs.{needs}
 use borrow.Author.Tests.{not-true, not-false}
 use Rattle.octets.specs.Outcome.{value}
-use Rattle.messages.specs.Wire.{success, bufferOverflow}
+use Rattle.messages.specs.Wire.{success, bufferOverflow, allFlags}
 use Rattle.frontend.specs.Reader.{status, statusAndFlags}
 use Rattle.frontend.proofs.Accepts.{allowed-most, long-told, flags-told, refuse-short, refuse-type}
 use Rattle.frontend.proofs.Accepts.{refuse-length, refuse-flags-size, refuse-flags, accept-flags}
@@ -35,7 +36,8 @@ returns-5 c =
     let told = c .before .before .before .before in
     let status = told .before in
     let carries = flags-told _ _ _ _ _ (status .read-u64 .ensures) (told .carries-flags .ensures) (c .before .before .before .if4 .taken) in
-    refuse-flags _ _ carries (rw (c .before .read-u642 .ensures) at (c .if6 .taken))
+    let high : allFlags < c .before .read-u642 .result = omega (arith, c .if6 .taken) in
+    refuse-flags _ _ carries (rw (c .before .read-u642 .ensures) at high)
 
 returns-6 : tie.Need-returns-6
 returns-6 c =

@@ -1,13 +1,19 @@
 -- `frontend::writer::write_get_flags` meets its contract: the test picks the case, and the header is all of the message.
 -- Assumes nothing.
 use mathlib.Core.Path.{refl}
+use Prim.Native.Nat.{_<_}
+use native.Mathlib.Omega.{arith}
+use lib.ListN.{length}
 use borrow.Author.Needs.{needs}
+use Rattle.messages.specs.Wire.{headerSize}
 use Rattle.frontend.proofs.Buffers.{message-short, header-written}
 use Rattle.frontend.proofs.writer.write_get_flags.Statement.{statement}
 use Rattle.frontend.proofs.writer.write_get_flags.Tie as tie
 
 returns : tie.Need-returns
-returns c = message-short _ _ _ _ refl (c .if1 .taken)
+returns c =
+    let short : length (c .before .before .args .buffer .now) < headerSize = omega (arith, c .if1 .taken) in
+    message-short _ _ _ _ refl short
 
 returns-2 : tie.Need-returns-2
 returns-2 c =

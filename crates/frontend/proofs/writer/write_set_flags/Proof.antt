@@ -1,9 +1,12 @@
 -- `frontend::writer::write_set_flags` meets its contract: the tests pick the case, and the two parts are the message's.
 -- Assumes nothing.
 use mathlib.Core.Path.{sym}
+use Prim.Native.Nat.{_<_}
+use native.Mathlib.Omega.{arith}
 use borrow.Author.Needs.{needs}
 use borrow.Author.Tests.{le-leb, lt-leb}
 use Rattle.octets.proofs.Numbers.{length-octets}
+use Rattle.messages.specs.Wire.{allFlags}
 use Rattle.frontend.specs.Writer.{written}
 use Rattle.frontend.proofs.Buffers.{message-short, message-written, field-written}
 use Rattle.frontend.proofs.writer.write_set_flags.Statement.{statement}
@@ -11,7 +14,9 @@ use Rattle.frontend.proofs.writer.write_set_flags.Tie as tie
 
 returns : tie.Need-returns
 unfolding written
-returns c = simp (lt-leb _ _ (c .if1 .taken))
+returns c =
+    let high : allFlags < c .before .before .args .flags = omega (arith, c .if1 .taken) in
+    simp (lt-leb _ _ high)
 
 returns-2 : tie.Need-returns-2
 returns-2 c = simp (le-leb _ _ (c .before .if1 .left)) (message-short _ _ _ _ (sym (length-octets _ _)) (c .if2 .taken))

@@ -1,8 +1,12 @@
 -- `messages::requests::set_mapping` meets its contract: the tests on the way to each return pick the row of the table.
 -- Assumes nothing.
-use mathlib.Core.Path.{sym, _∙_}
+use mathlib.Core.Path.{_≡_, sym, _∙_}
+use Prim.Native.Nat.{_/_, _%_, _<_}
+use native.Mathlib.Omega.{arith}
 use borrow.Author.Needs.{needs}
 use borrow.Author.Tests.{not-true, not-false}
+use Rattle.messages.specs.Wire.{fieldSize}
+use Rattle.messages.specs.Settings.{maxEntries}
 use Rattle.messages.specs.Requests.{setMapping}
 use Rattle.messages.proofs.Statuses.{set-mapping-remainder, set-mapping-power, set-mapping-many, set-mapping-entry, set-mapping-done}
 use Rattle.messages.proofs.Effects.{carried-refused, mapping-set}
@@ -10,7 +14,9 @@ use Rattle.messages.proofs.requests.set_mapping.Statement.{statement}
 use Rattle.messages.proofs.requests.set_mapping.Tie as tie
 
 returns : tie.Need-returns
-returns c = c .answer .ensures ∙ carried-refused setMapping _ _ _ 1 (set-mapping-remainder _ _ _ (c .before .if1 .taken))
+returns c =
+    let uneven : c .before .before .before .args .size % fieldSize ≡ 0 → ⊥ = λ e. omega (arith, c .before .if1 .taken) in
+    c .answer .ensures ∙ carried-refused setMapping _ _ _ 1 (set-mapping-remainder _ _ _ uneven)
 
 returns-2 : tie.Need-returns-2
 returns-2 c =
@@ -23,8 +29,8 @@ returns-3 c =
     let test = c .before .before in
     let d = test .before in
     let power = sym (d .is-power-of-two .ensures) ∙ not-false _ (test .if2 .left) in
-    c .answer3 .ensures
-    ∙ carried-refused setMapping _ _ _ 2 (set-mapping-many _ _ _ (d .before .if1 .left) power (c .before .if3 .taken))
+    let many : maxEntries < d .before .before .before .args .size / fieldSize = omega (arith, c .before .if3 .taken) in
+    c .answer3 .ensures ∙ carried-refused setMapping _ _ _ 2 (set-mapping-many _ _ _ (d .before .if1 .left) power many)
 
 returns-4 : tie.Need-returns-4
 returns-4 c =

@@ -4,6 +4,7 @@ use mathlib.Core.Path.{_≡_, refl, sym}
 use mathlib.Core.Bool.{true, false, false≢true}
 use Prim.Native.Nat.{_≤_, _-_}
 use lib.ListN.{length}
+use native.Mathlib.Omega.{arith}
 use borrow.Author.Needs.{needs}
 use Rattle.messages.specs.Settings.{maxEntries, mappingOf}
 use Rattle.messages.specs.Requests.{entriesIn, allBelow}
@@ -27,8 +28,10 @@ loop-holds c = (refl, refl, search needs, search needs)
 
 returns : tie.Need-returns Inv-loop μ-loop
 returns c =
+    let entry = c .before in
+    let high : entry .before .before .before .before .args .queues ≤ entry .read-u64 .result = omega (arith, c .if1 .taken) in
     record {
-      passed = sym (not-below _ _ _ _ _ (c .before .before .loop-test .taken) (c .before .read-u64 .ensures) (c .if1 .taken));
+      passed = sym (not-below _ _ _ _ _ (entry .before .loop-test .taken) (entry .read-u64 .ensures) high);
       mapping = λ e. absurd (false≢true e);
     }
 

@@ -1,9 +1,13 @@
 -- `toeplitz::hashing::hash` meets its contract: the tests on the way to each return pick the case of `hashOutcome`.
 -- Assumes nothing.
 use mathlib.Core.Path.{ap}
+use Prim.Native.Nat.{_<_}
+use native.Mathlib.Omega.{arith}
+use lib.ListN.{length}
 use borrow.Author.Needs.{needs}
 use borrow.Author.Tests.{eq-eqb, ne-eqb, le-leb, lt-leb}
 use Rattle.octets.specs.Outcome.{value}
+use Rattle.toeplitz.specs.Hash.{maxInput}
 use Rattle.toeplitz.proofs.hashing.hash.Statement.{statement}
 use Rattle.toeplitz.proofs.hashing.hash.Tie as tie
 
@@ -11,7 +15,9 @@ returns : tie.Need-returns
 returns c = simp (ne-eqb _ _ (c .if1 .taken))
 
 returns-2 : tie.Need-returns-2
-returns-2 c = simp (eq-eqb _ _ (c .before .if1 .left), lt-leb _ _ (c .if2 .taken))
+returns-2 c =
+    let long : maxInput < length (c .before .before .before .before .args .input .now) = omega (arith, c .if2 .taken) in
+    simp (eq-eqb _ _ (c .before .if1 .left), lt-leb _ _ long)
 
 returns-3 : tie.Need-returns-3
 returns-3 c =
