@@ -1,4 +1,4 @@
-"""The file `cases` that a test program runs."""
+"""The file `cases` that a test program runs, and the digest by which it prints many octets in few."""
 
 MOST = 65536
 
@@ -8,3 +8,11 @@ def case_file(cases):
     data = b"".join(bytes([kind]) + len(body).to_bytes(2, "little") + body for kind, body in cases)
     assert len(data) <= MOST, f"a program reads no more than {MOST} octets of cases, not {len(data)}"
     return data
+
+
+def digest(data):
+    """A number below 2^32 that depends on every octet and its place."""
+    total = 0
+    for octet in data:
+        total = (total * 257 + octet + 1) % 2**32
+    return f"{total:08x}"

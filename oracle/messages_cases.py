@@ -5,7 +5,7 @@ behind it act on that one.
 """
 
 import messages
-from cases import case_file
+from cases import case_file, digest
 from messages import GET_FLAGS, SET_FLAGS, SET_KEY, SET_MAPPING, octets
 from seeds import seeded, seeded_below
 
@@ -157,14 +157,6 @@ def random_cases():
 def all_cases():
     for part in (worked_cases, size_cases, flag_cases, key_cases, mapping_cases, writer_cases, reader_cases, random_cases):
         yield from part()
-
-
-def digest(data):
-    """A number below 2^32 that depends on every octet and its place."""
-    total = 0
-    for octet in data:
-        total = (total * 257 + octet + 1) % 2**32
-    return f"{total:08x}"
 
 
 def request_line(settings, body):

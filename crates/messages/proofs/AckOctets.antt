@@ -3,16 +3,17 @@
 use mathlib.Core.Path.{_≡_, refl, sym, ap, _∙_}
 use mathlib.Core.List.{List, _∷_, _++_}
 use mathlib.Core.Bool.{Bool, true, false, cond, false≢true}
-use Prim.Native.Nat.{ℕ, _^_, _<_}
+use Prim.Native.Nat.{ℕ, _+_, _-_, _^_, _≤_, _<_}
 use native.Mathlib.Omega.{arith}
-use lib.ListN.{set, replicate}
+use lib.ListN.{length, set, replicate, length-append, length-replicate}
 use borrow.Author.Tests.{eqb-true}
 use Rattle.octets.specs.Numbers.{numberAt, octetsOf}
-use Rattle.octets.proofs.Numbers.{octets-small, number-octets, number-octets-alone}
-use Rattle.messages.specs.Wire.{fieldSize, header, message, success, allFlags}
+use Rattle.octets.proofs.Numbers.{length-octets, octets-small, number-octets, number-octets-alone}
+use Rattle.messages.specs.Wire.{headerSize, fieldSize, header, message, ackType, success, allFlags}
 use Rattle.messages.specs.Requests.{Request, getFlags, setFlags, setKey, setMapping, none}
 use Rattle.messages.specs.Requests.{statusPayload, flagsPayload, carriesFlags, ackPayload, maxAck, ackStored}
 use Rattle.messages.specs.declared.Ack.{Ack}
+use Rattle.messages.proofs.Parts.{length-message}
 
 -- type 1 and the size, and the number in the octets from index i on, all else zeros
 abbrev stored : ℕ → ℕ → ℕ → ℕ → Ack
@@ -47,3 +48,26 @@ payload-status r status h = by (carriesFlags r status) refl
     by : (t : Bool) → carriesFlags r status ≡ t → numberAt fieldSize (cond t (flagsPayload allFlags) (statusPayload status)) 0 ≡ status
     by true e = number-octets fieldSize success (octetsOf fieldSize allFlags) (omega arith) ∙ sym (flags-success r status e .1)
     by false e = number-octets-alone fieldSize status h
+
+-- the payload of an ack is a field or two, so the ack has its place
+pub payload-short : (r : Request) (status : ℕ) → length (ackPayload r status) ≤ 16
+payload-short r status = by-flags (carriesFlags r status)
+  where
+    by-flags : (b : Bool) → length (cond b (flagsPayload allFlags) (statusPayload status)) ≤ 16
+    by-flags true =
+        let two = length-append (octetsOf fieldSize success) (octetsOf fieldSize allFlags) in
+        let first = length-octets fieldSize success in
+        let second = length-octets fieldSize allFlags in
+        omega arith
+    by-flags false = let one = length-octets fieldSize status in omega arith
+
+pub stored-fits : (payload : List ℕ) → length payload ≤ 16
+    → (length (ackStored payload .octets) ≡ maxAck) × (ackStored payload .length ≤ maxAck)
+stored-fits payload short =
+    let long : length (message ackType payload) ≡ headerSize + length payload = length-message ackType payload in
+    (
+      length-append (message ackType payload) (replicate (maxAck - length (message ackType payload)) 0)
+      ∙ ap (λ (k : ℕ). length (message ackType payload) + k) (length-replicate (maxAck - length (message ackType payload)) 0)
+      ∙ omega arith,
+      omega arith,
+    )

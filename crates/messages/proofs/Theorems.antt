@@ -14,11 +14,11 @@ use Rattle.octets.proofs.Numbers.{number-octets-alone}
 use Rattle.toeplitz.specs.Hash.{keyLength}
 use Rattle.messages.specs.Wire.{maxPayload, fieldSize, message, statusIn, ackType, success}
 use Rattle.messages.specs.Settings.{maxQueues, isPowerBelow, isPowerOfTwo, isListed, settingsAtSetup, Good}
-use Rattle.messages.specs.Requests.{requestOf, statusOf, replaced, statusPayload, ackPayload, ackIn, ackStatus, answered, carriedBy, carriedOut}
+use Rattle.messages.specs.Requests.{requestOf, statusOf, replaced, statusPayload, ackPayload, maxAck, ackIn, ackStatus, answered, carriedBy, carriedOut}
 use Rattle.messages.specs.declared.Settings.{Settings}
 use Rattle.messages.proofs.Powers.{power-exactly, listed-parts, exponent-most}
 use Rattle.messages.proofs.Parts.{number-payload}
-use Rattle.messages.proofs.AckOctets.{payload-status}
+use Rattle.messages.proofs.AckOctets.{payload-status, payload-short, stored-fits}
 use Rattle.messages.proofs.Statuses.{status-most}
 use Rattle.messages.proofs.Effects.{settings-refused, settings-done, settings-either, replaced-queues}
 use Rattle.messages.proofs.Goodness.{good-mapping, first-table, good-replaced}
@@ -29,6 +29,13 @@ module _ (s : Settings) (t n : ℕ) (p : List ℕ) where
   pub ack-is : ackIn (carriedOut s t n p) ≡ message ackType (ackPayload (requestOf t) (statusOf (requestOf t) (s .queues) n p))
   unfolding carriedBy
   ack-is = take-append-seam _ _
+
+  -- it has its place: 24 octets are kept of it, and it has no more
+  pub ack-fits : (length (carriedOut s t n p .ack .octets) ≡ maxAck) × (carriedOut s t n p .ack .length ≤ maxAck)
+  unfolding carriedBy
+  ack-fits =
+      let status = statusOf (requestOf t) (s .queues) n p in
+      stored-fits (ackPayload (requestOf t) status) (payload-short (requestOf t) status)
 
   pub ack-carries-status : ackStatus (carriedOut s t n p) ≡ statusOf (requestOf t) (s .queues) n p
   ack-carries-status =

@@ -109,7 +109,7 @@ pub single-bit-is-input : (t b : ℕ) → b < inputSize t * 8 → IsInput t (sin
 single-bit-is-input t b h = one-is-input t b h
 
 -- the hash call takes each of them
-input-short : (t : ℕ) → t ≤ lastType → inputSize t ≤ maxInput
+pub input-short : (t : ℕ) → t ≤ lastType → inputSize t ≤ maxInput
 input-short zero h = lit≤ tt
 input-short (suc zero) h = lit≤ tt
 input-short (suc (suc zero)) h = lit≤ tt

@@ -1,0 +1,2 @@
+-- The laws of `packet` that other crates cite.
+pub mod Theorems

@@ -1,0 +1,2 @@
+-- The definitions that the contract of `packet` cites.
+pub mod Packets

@@ -1,0 +1,5 @@
+-- The laws of `ring` that other crates cite.
+pub mod Places
+pub mod Steps
+pub mod Sides
+pub mod Holdings

@@ -1,0 +1,83 @@
+-- Both sides of a ring stay good, and octets are counted as they are moved.
+-- Assumes nothing.
+use mathlib.Core.Path.{_≡_, refl, sym, ap, _∙_}
+use mathlib.Core.List.{List, [], _∷_}
+use mathlib.Core.Bool.{Bool, true, false, cond}
+use Prim.Native.Nat.{ℕ, suc, _+_, _-_, _%_, _^_, _≤_, _<_, min}
+use native.Mathlib.Omega.{arith}
+use lib.ListN.{length, set, length-set}
+use lib.Dec.{ltb}
+use borrow.Author.Tests.{lt-leb}
+use Rattle.messages.specs.Wire.{headerSize, maxPayload, sizeIn}
+use Rattle.ring.specs.Page.{requestsAt, advanced, less, octetsIn}
+use Rattle.ring.specs.Reading.{isWhole, whole, withOctet, received, receivedFrom, incomingAtSetup, GoodIncoming}
+use Rattle.ring.specs.Writing.{owed, fitting, sent, outgoingAtSetup, GoodOutgoing}
+use Rattle.ring.specs.declared.Message.{Message}
+use Rattle.ring.specs.declared.Incoming.{Incoming}
+use Rattle.ring.specs.declared.Outgoing.{Outgoing}
+use Rattle.ring.proofs.Places.{octets-length}
+
+-- a message with the same sizes, and n octets more
+pub record Grown (m r : Message) (n : ℕ) : Type 0 where
+  pub header : length (r .header) ≡ length (m .header)
+  pub payload : length (r .payload) ≡ length (m .payload)
+  pub least : m .taken ≤ r .taken
+  pub most : r .taken ≤ m .taken + n
+
+by-test : {A : Type 0} (P : A → Type 0) (t : Bool) (a b : A) → P a → P b → P (cond t a b)
+by-test P true a b p q = p
+by-test P false a b p q = q
+
+grown-next : (m : Message) (x : ℕ) → Grown m (withOctet m x) 1
+unfolding withOctet
+grown-next m x =
+    by-test (λ (r : Message). Grown m r 1) (ltb (m .taken) headerSize) _ _
+    (record { header = length-set (m .header) (m .taken) x; payload = refl; least = omega arith; most = omega arith })
+    (record { header = refl; payload = length-set (m .payload) (m .taken - headerSize) x; least = omega arith; most = omega arith })
+
+grown-none : (m : Message) (n : ℕ) → Grown m m n
+grown-none m n = record { header = refl; payload = refl; least = omega arith; most = omega arith }
+
+grown-more : (m r t : Message) (n : ℕ) → Grown m r 1 → Grown r t n → Grown m t (suc n)
+grown-more m r t n one more =
+    record { header = more .header ∙ one .header; payload = more .payload ∙ one .payload; least = omega arith; most = omega arith }
+
+pub grown : (xs : List ℕ) (m : Message) → Grown m (received xs m) (length xs)
+unfolding received
+grown [] m = grown-none m 0
+grown (x ∷ xs) m =
+    by-test (λ (r : Message). Grown m r (suc (length xs))) (whole m) _ _ (grown-none m (suc (length xs)))
+    (grown-more m (withOctet m x) (received xs (withOctet m x)) (length xs) (grown-next m x) (grown xs (withOctet m x)))
+
+-- the difference of a count and itself advanced is what it was advanced by
+pub less-advanced : (c n : ℕ) → c < 2 ^ 32 → n < 2 ^ 32 → less (advanced c n) c ≡ n
+less-advanced c n hc hn = omega arith
+
+-- of n octets unread, no more are read
+pub read-most : (page : List ℕ) (i : Incoming) (n : ℕ) → receivedFrom page i n .message .taken - i .message .taken ≤ n
+unfolding receivedFrom
+read-most page i n =
+    let g = grown (octetsIn requestsAt page (i .«req_cons») n) (i .message) in
+    let l = octets-length requestsAt page (i .«req_cons») n in
+    omega arith
+
+-- a message of which nothing is read is not whole
+pub none-waits : (header : List ℕ) → isWhole header 0 ≡ false
+none-waits header = lt-leb (headerSize + sizeIn header) 0 (omega arith)
+
+pub good-received : (page : List ℕ) (i : Incoming) (n : ℕ) → GoodIncoming i → whole (receivedFrom page i n .message) ≡ false
+    → GoodIncoming (receivedFrom page i n)
+unfolding receivedFrom
+good-received page i n good waits =
+    let g = grown (octetsIn requestsAt page (i .«req_cons») n) (i .message) in
+    record { header = g .header ∙ good .header; payload = g .payload ∙ good .payload; waiting = waits; count = omega arith }
+
+pub good-sent : (o : Outgoing) (room : ℕ) → GoodOutgoing o → GoodOutgoing (sent o (fitting o room))
+good-sent o room good =
+    record { size = good .size; within = omega (arith, good .within); short = good .short; count = omega arith }
+
+pub good-incoming-at-setup : GoodIncoming incomingAtSetup
+good-incoming-at-setup = record { header = refl; payload = refl; waiting = none-waits (incomingAtSetup .message .header); count = omega arith }
+
+pub good-outgoing-at-setup : GoodOutgoing outgoingAtSetup
+good-outgoing-at-setup = record { size = refl; within = omega arith; short = omega arith; count = omega arith }

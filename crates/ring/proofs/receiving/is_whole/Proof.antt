@@ -1,0 +1,12 @@
+-- `ring::receiving::is_whole` meets its contract: the length of the message is known.
+-- Assumes nothing.
+use mathlib.Core.Path.{refl}
+use borrow.Author.Needs.{needs}
+use Rattle.ring.proofs.receiving.is_whole.Statement.{statement}
+use Rattle.ring.proofs.receiving.is_whole.Tie as tie
+
+returns : tie.Need-returns
+returns c = rw (c .message-length .ensures) refl
+
+pub is-whole-spec : {M : Type 1} → statement M
+is-whole-spec = tie.close (tie.spec (λ c κs. search needs) returns)

@@ -1,0 +1,69 @@
+-- `ring::receiving::read_payload` meets its contract: octets behind those that the part lent holds would change nothing.
+-- Assumes nothing.
+use mathlib.Core.Path.{_≡_, refl, sym, ap, _∙_}
+use Prim.Native.Nat.{ℕ, _-_, _≤_, _<_, min}
+use native.Mathlib.Omega.{arith}
+use borrow.Author.Needs.{needs}
+use borrow.Author.Tests.{lt-ltb, le-ltb}
+use Rattle.messages.specs.Wire.{headerSize}
+use Rattle.ring.specs.Page.{requestsAt, octetsIn}
+use Rattle.ring.specs.Inner.{payloadMoved}
+use Rattle.ring.proofs.Steps.{none-set, sets-out, part-read}
+use Rattle.ring.proofs.receiving.read_payload.Statement.{statement}
+use Rattle.ring.proofs.receiving.read_payload.Tie as tie
+
+returns : tie.Need-returns
+returns c =
+    let a = c .before .before .before .before .args in
+    let short : a .taken < headerSize = omega arith in (
+      rw (lt-ltb (a .taken) headerSize short) refl,
+      sym (none-set (a .page .now) (a .count) (a .payload .now) (a .taken - headerSize) 0 refl),
+    )
+
+-- once the least of what is missing and what is there is known
+module _ (d : tie.After-least) where
+  abbrev start : tie.Start
+  start = d .before .before .before .before .before .before
+
+  moved : d .least .result ≡ payloadMoved (start .args .header .now) (start .args .taken) (start .args .n)
+  moved =
+      let a = start .args in
+      let long : headerSize ≤ a .taken = omega arith in
+      rw (le-ltb (a .taken) headerSize long) (rw (← d .before .message-length .ensures) (d .least .ensures))
+
+returns-2 : tie.Need-returns-2
+returns-2 c =
+    let e = c .before .before .before .before in
+    let d = e .before .before in
+    let a = start d .args in
+    let i = a .taken - headerSize in
+    let kept = e .least2 .ensures ∙ ap (λ (n : ℕ). min (n - i) (d .least .result)) (sym (start d .pre .0 .2)) in
+    let read = c .before .before .read-area .ensures in
+    (moved d, part-read (a .page .now) (a .payload .now) _ (a .count) i (e .least2 .result) (d .least .result) read (omega arith) kept)
+
+returns-3 : tie.Need-returns-3
+returns-3 c =
+    let d = c .before in
+    let a = start d .args in (
+      moved d,
+      sym (sets-out (a .payload .now) (octetsIn requestsAt (a .page .now) (a .count) (d .least .result)) (a .taken - headerSize) (omega arith)),
+    )
+
+pub read-payload-spec : {M : Type 1} → statement M
+read-payload-spec =
+    tie.close
+    (tie.spec
+    returns
+    (λ c κs. search needs)
+    (λ c. search needs)
+    (λ c κs. search needs)
+    (λ c. search needs)
+    (λ c κs. search needs)
+    (λ c. search needs)
+    (λ c. search needs)
+    (λ c. search needs)
+    (λ c. search needs)
+    (λ c κs. search needs)
+    (λ c. search needs)
+    returns-2
+    returns-3)

@@ -1,0 +1,15 @@
+-- What the inner functions promise: no part of the public promise.
+-- Assumes nothing.
+use mathlib.Core.List.{List}
+use mathlib.Core.Bool.{cond}
+use Prim.Native.Nat.{ℕ, _+_, _-_, min}
+use lib.Dec.{ltb}
+use Rattle.messages.specs.Wire.{headerSize, sizeIn}
+
+-- of n octets, those that go into a header of which `taken` are there
+abbrev pub headerMoved : ℕ → ℕ → ℕ
+headerMoved taken n = min (headerSize - taken) n
+
+-- of n octets, those that go into the payload, once the header is whole
+abbrev pub payloadMoved : List ℕ → ℕ → ℕ → ℕ
+payloadMoved header taken n = cond (ltb taken headerSize) 0 (min (headerSize + sizeIn header - taken) n)

@@ -1,0 +1,53 @@
+// The shared page of a control ring: its counts, the request area that the host reads, and the response area that
+// it writes. Of a message the ring knows only its length.
+mod areas;
+mod receiving;
+mod sending;
+
+pub use areas::difference;
+use messages::HEADER;
+use messages::MAX_ACK;
+use messages::MAX_PAYLOAD;
+pub use receiving::is_whole;
+pub use receiving::receive;
+pub use sending::send;
+
+// Octets of the page, and of each area.
+pub const PAGE: usize = 4096;
+
+pub const AREA: u32 = 1024;
+
+// Where the counts and the areas stand.
+pub const REQ_CONS: usize = 0;
+
+pub const REQ_PROD: usize = 4;
+
+pub const RSP_CONS: usize = 8;
+
+pub const RSP_PROD: usize = 12;
+
+pub const REQUESTS: usize = 16;
+
+pub const RESPONSES: usize = 1040;
+
+// What has been read of a message: its header, the first 1,024 octets of its payload, and how many octets in all.
+pub struct Message {
+    pub header: [u8; HEADER],
+    pub payload: [u8; MAX_PAYLOAD],
+    pub taken: u64,
+}
+
+// The reading side of a ring: the present message, and the count of octets read.
+pub struct Incoming {
+    pub message: Message,
+    pub req_cons: u32,
+}
+
+// The writing side of a ring: an ack of `length` octets, of which `written` are on the page, and the count of
+// octets written.
+pub struct Outgoing {
+    pub ack: [u8; MAX_ACK],
+    pub length: usize,
+    pub written: usize,
+    pub rsp_prod: u32,
+}

@@ -1,0 +1,116 @@
+// The present message read from the request area: first what is missing of its header, then of its payload, until
+// it is whole or no octet is left. Octets of a following message stay.
+ghost use mathlib.Core.Path.{_≡_};
+ghost use mathlib.Core.Bool.{false};
+ghost use Prim.Native.Nat.{_+_, _-_, _≤_, _<_};
+ghost use lib.ListN.{length};
+ghost use lib.Seq.{sets};
+ghost use Rattle.messages.specs.Wire.{headerSize, maxPayload, sizeIn};
+ghost use Rattle.ring.specs.Page.{pageSize, areaSize, requestsAt, octetsIn};
+ghost use Rattle.ring.specs.Reading.{isWhole, receivedFrom};
+ghost use Rattle.ring.specs.Inner.{headerMoved, payloadMoved};
+use crate::Incoming;
+use crate::Message;
+use crate::REQUESTS;
+use crate::areas::least;
+use crate::areas::read_area;
+use messages::HEADER;
+use messages::MAX_PAYLOAD;
+use messages::SIZE_AT;
+
+// Octets of a header and of the payload kept, as the octets taken of a message are counted.
+const HEADER_OCTETS: u64 = HEADER as u64;
+
+const KEPT: u64 = MAX_PAYLOAD as u64;
+
+// Whether all octets of the message have been taken.
+pub fn is_whole(header: &[u8; HEADER], taken: u64) -> bool
+    ensures { λ r. ⌜ r ≡ isWhole (now (header .entry)) taken ⌝ }
+{
+    message_length(header) <= taken
+}
+
+// The length of the message with this header.
+fn message_length(header: &[u8]) -> u64
+    requires { ⌜ length (now header) ≡ headerSize ⌝ }
+    ensures { λ r. ⌜ r ≡ headerSize + sizeIn (now (header .entry)) ⌝ }
+{
+    HEADER_OCTETS + octets::read_u32(header, SIZE_AT) as u64
+}
+
+// Reads the octets of the present message that stand among the `unread` ones.
+pub fn receive(page: &[u8], incoming: Incoming, unread: u32) -> Incoming
+    requires { ⌜ (length (now page) ≡ pageSize) × (unread ≤ areaSize) ⌝ }
+    requires { ⌜ isWhole (incoming .message .header) (incoming .message .taken) ≡ false ⌝ }
+    ensures { λ r. ⌜ r ≡ receivedFrom (now (page .entry)) incoming unread ⌝ }
+{
+    let message = incoming.message;
+    let mut header = message.header;
+    let mut payload = message.payload;
+    let taken = message.taken;
+    let count = incoming.req_cons;
+    let some = read_header(page, &mut header, taken, count, unread as u64);
+    let more = read_payload(
+        page,
+        &header,
+        &mut payload,
+        taken + some,
+        std::num::wrapping_add_u32(count, some as u32),
+        unread as u64 - some,
+    );
+    let moved = some + more;
+    Incoming {
+        message: Message {
+            header,
+            payload,
+            taken: taken + moved,
+        },
+        req_cons: std::num::wrapping_add_u32(count, moved as u32),
+    }
+}
+
+// Reads what is missing of the header, as far as it stands among the n octets from `count` on, and answers how many
+// octets that is.
+fn read_header(page: &[u8], header: &mut [u8], taken: u64, count: u32, n: u64) -> u64
+    requires { ⌜ (length (now page) ≡ pageSize) × (length (now header) ≡ headerSize) ⌝ }
+    ensures { λ r. ⌜ (r ≡ headerMoved taken n) × (now (header .exit) ≡ sets (now (header .entry)) taken (octetsIn requestsAt (now (page .entry)) count r)) ⌝ }
+{
+    if taken >= HEADER_OCTETS {
+        return 0;
+    }
+    let k = least(HEADER_OCTETS - taken, n);
+    let start = taken as usize;
+    read_area(
+        page,
+        REQUESTS,
+        count,
+        &mut header[start..start + k as usize],
+    );
+    k
+}
+
+// Reads what is missing of the payload alike. Octets of it behind the first 1,024 are counted and dropped.
+fn read_payload(
+    page: &[u8],
+    header: &[u8],
+    payload: &mut [u8],
+    taken: u64,
+    count: u32,
+    n: u64,
+) -> u64
+    requires { ⌜ (length (now page) ≡ pageSize) × (length (now header) ≡ headerSize) × (length (now payload) ≡ maxPayload) ⌝ }
+    requires { ⌜ (n ≤ areaSize) × (taken ≤ headerSize + sizeIn (now header)) ⌝ }
+    ensures { λ r. ⌜ (r ≡ payloadMoved (now (header .entry)) taken n) × (now (payload .exit) ≡ sets (now (payload .entry)) (taken - headerSize) (octetsIn requestsAt (now (page .entry)) count r)) ⌝ }
+{
+    if taken < HEADER_OCTETS {
+        return 0;
+    }
+    let k = least(message_length(header) - taken, n);
+    let start = taken - HEADER_OCTETS;
+    if start < KEPT {
+        let kept = least(KEPT - start, k) as usize;
+        let from = start as usize;
+        read_area(page, REQUESTS, count, &mut payload[from..from + kept]);
+    }
+    k
+}

@@ -1,0 +1,3 @@
+-- The laws of `steering` that other crates cite.
+pub mod Choices
+pub mod Theorems

@@ -1,0 +1,62 @@
+-- What readers ask of the packet question, over the definitions alone.
+-- Assumes nothing.
+use mathlib.Core.Path.{_≡_, refl}
+use mathlib.Core.List.{List}
+use mathlib.Core.Bool.{Bool, true, false, cond}
+use Prim.Native.Nat.{ℕ, _%_, _≤_, _<_}
+use native.Mathlib.Nat.{mod-lt}
+use native.Mathlib.Omega.{arith}
+use lib.ListN.{length}
+use lib.Seq.{length-take-le}
+use lib.Pow.{pow-pos}
+use Rattle.toeplitz.specs.Hash.{publishedHash}
+use Rattle.messages.specs.Settings.{Good, tableOf}
+use Rattle.messages.specs.declared.Settings.{Settings}
+use Rattle.messages.proofs.Powers.{power-exactly, listed-parts}
+use Rattle.packet.specs.Packets.{PacketType, noType, hashType, kindOf, inputOf}
+use Rattle.steering.specs.Steering.{Usable, isSet, plainType, typeUsed, queueOf, hashed, queueIn, chosen, steered, steeredBy}
+
+-- the key and the table of good settings can be asked
+pub good-usable : (s : Settings) → Good s → Usable (s .key) (tableOf (s .mapping))
+good-usable s good =
+    let m = good .mapping in
+    let x = listed-parts (s .mapping .count) .0 (m .listed) in
+    let p = power-exactly (s .mapping .count) .0 (x .0) in
+    let some : 1 ≤ s .mapping .count = rw (p .1) (pow-pos (p .0)) in
+    let long : s .mapping .count ≤ length (s .mapping .entries) = rw (m .size) (x .1) in
+    record { key-whole = good .key; some-entry = rw (length-take-le (s .mapping .count) (s .mapping .entries) long) some }
+
+-- demand 1: every queue chosen is below the number of queues in operation
+pub queue-below : (s : Settings) (packet : List ℕ) → Good s → queueIn (steeredBy s packet) < s .queues
+unfolding chosen queueOf
+queue-below s packet good = below (typeUsed (s .flags) (kindOf packet))
+  where
+    below : (k : PacketType) → queueIn (chosen (s .key) (tableOf (s .mapping)) packet k) < s .queues
+    below noType = good .some-queue
+    below (hashType t) =
+        let table = tableOf (s .mapping) in
+        let hash = publishedHash (s .key) (inputOf t packet) in
+        good .mapping .below (hash % length table) (mod-lt hash (good-usable s good .some-entry))
+
+-- a type is used only where its flag is set
+pub used-is-set : (flags t : ℕ) (k : PacketType) → typeUsed flags k ≡ hashType t → isSet flags t ≡ true
+unfolding typeUsed
+used-is-set flags t noType e = let z : _≡_ {A = ℕ} 0 1 = cc in absurd (omega arith)
+used-is-set flags t (hashType u) e = by (isSet flags u) (isSet flags (plainType u)) refl refl e
+  where
+    by : (a b : Bool) → isSet flags u ≡ a → isSet flags (plainType u) ≡ b
+        → cond a (hashType u) (cond b (hashType (plainType u)) noType) ≡ hashType t → isSet flags t ≡ true
+    by true b p q h = let same : u ≡ t = cc in rw (← same) p
+    by false true p q h = let same : plainType u ≡ t = cc in rw (← same) q
+    by false false p q h = let z : _≡_ {A = ℕ} 0 1 = cc in absurd (omega arith)
+
+-- the hash answered is the published hash of the input of the type answered, and the queue is the entry at that hash
+pub answered-together : (flags : ℕ) (key table packet : List ℕ) (t hash queue : ℕ) → steered flags key table packet ≡ hashed t hash queue
+    → (typeUsed flags (kindOf packet) ≡ hashType t) × (hash ≡ publishedHash key (inputOf t packet)) × (queue ≡ queueOf table hash)
+unfolding chosen
+answered-together flags key table packet t hash queue e = together (typeUsed flags (kindOf packet)) e
+  where
+    together : (k : PacketType) → chosen key table packet k ≡ hashed t hash queue
+        → (k ≡ hashType t) × (hash ≡ publishedHash key (inputOf t packet)) × (queue ≡ queueOf table hash)
+    together noType h = let z : _≡_ {A = ℕ} 0 1 = cc in absurd (omega arith)
+    together (hashType u) h = (cc, cc, cc)

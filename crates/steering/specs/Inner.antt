@@ -1,0 +1,19 @@
+-- What the inner functions promise: no part of the public promise.
+-- Assumes nothing.
+use mathlib.Core.List.{List}
+use mathlib.Core.Bool.{cond}
+use Prim.Native.Nat.{ℕ, _+_}
+use lib.ListN.{take}
+use Rattle.toeplitz.specs.Hash.{publishedHash}
+use Rattle.toeplitz.specs.TwoWay.{addressSize}
+use Rattle.steering.specs.Steering.{isSet, plainType, Choice, unhashed, hashedTo}
+
+-- octets of the two addresses, which are the input of the plain type beside type t
+abbrev pub plainSize : ℕ → ℕ
+plainSize t = addressSize t + addressSize t
+
+-- the choice for a packet whose own type is t, with the input of that type
+unfoldable pub steeredIp : ℕ → List ℕ → List ℕ → ℕ → List ℕ → Choice
+steeredIp flags key table t input =
+    cond (isSet flags t) (hashedTo t (publishedHash key input) table)
+    (cond (isSet flags (plainType t)) (hashedTo (plainType t) (publishedHash key (take (plainSize t) input)) table) (unhashed 0))

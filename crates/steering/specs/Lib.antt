@@ -1,0 +1,3 @@
+-- The definitions that the contracts of `steering` cite.
+pub mod Steering
+pub mod Inner
