@@ -64,10 +64,9 @@ payload-short r status = by-flags (carriesFlags r status)
 pub stored-fits : (payload : List ℕ) → length payload ≤ 16
     → (length (ackStored payload .octets) ≡ maxAck) × (ackStored payload .length ≤ maxAck)
 stored-fits payload short =
-    let long : length (message ackType payload) ≡ headerSize + length payload = length-message ackType payload in
-    (
+    let long : length (message ackType payload) ≡ headerSize + length payload = length-message ackType payload in (
       length-append (message ackType payload) (replicate (maxAck - length (message ackType payload)) 0)
-      ∙ ap (λ (k : ℕ). length (message ackType payload) + k) (length-replicate (maxAck - length (message ackType payload)) 0)
-      ∙ omega arith,
+          ∙ ap (λ (k : ℕ). length (message ackType payload) + k) (length-replicate (maxAck - length (message ackType payload)) 0)
+          ∙ omega arith,
       omega arith,
     )

@@ -17,11 +17,14 @@ use Rattle.ring.specs.Streams.{messageLength, beginsWhole, firstMessage,
 use Rattle.ring.specs.declared.Message.{Message}
 
 -- the size in a header does not depend on what stands behind the header
-size-append : (xs ys : List ℕ) → headerSize ≤ length xs → sizeIn (xs ++ ys) ≡ sizeIn xs
+pub size-append : (xs ys : List ℕ) → headerSize ≤ length xs → sizeIn (xs ++ ys) ≡ sizeIn xs
 size-append xs ys h = number-same 4 (xs ++ ys) xs 4 4 (λ k l. List·getD-append xs ys 0 (4 + k) (omega arith))
 
-size-take : (xs : List ℕ) → sizeIn (take headerSize xs) ≡ sizeIn xs
-size-take xs = number-same 4 (take headerSize xs) xs 4 4 (λ k l. getD-take headerSize xs (4 + k) 0 (omega arith))
+pub size-front : (n : ℕ) (xs : List ℕ) → headerSize ≤ n → sizeIn (take n xs) ≡ sizeIn xs
+size-front n xs h = number-same 4 (take n xs) xs 4 4 (λ k l. getD-take n xs (4 + k) 0 (omega arith))
+
+pub size-take : (xs : List ℕ) → sizeIn (take headerSize xs) ≡ sizeIn xs
+size-take xs = size-front headerSize xs (omega arith)
 
 length-snoc : (xs : List ℕ) (x : ℕ) → length (xs ++ (x ∷ [])) ≡ suc (length xs)
 length-snoc xs x = length-append xs (x ∷ []) ∙ omega arith
@@ -52,11 +55,11 @@ received-whole [] m e = refl
 received-whole (y ∷ ys) m e = rw e refl
 
 -- what is read of a stream, by whether it begins with a whole message
-part-whole : (xs : List ℕ) → beginsWhole xs ≡ true → presentPart xs ≡ firstMessage xs
+pub part-whole : (xs : List ℕ) → beginsWhole xs ≡ true → presentPart xs ≡ firstMessage xs
 unfolding presentPart
 part-whole xs e = rw e refl
 
-part-all : (xs : List ℕ) → beginsWhole xs ≡ false → presentPart xs ≡ xs
+pub part-all : (xs : List ℕ) → beginsWhole xs ≡ false → presentPart xs ≡ xs
 unfolding presentPart
 part-all xs e = rw e refl
 
@@ -242,3 +245,15 @@ present-prefix xs ys part =
     let least : length xs ≤ n = present-least xs ys part in
     let count : n ≡ length xs + (n - length xs) = omega arith in
     present-take (xs ++ ys) ∙ ap (λ (k : ℕ). take k (xs ++ ys)) count ∙ take-append-add xs ys (n - length xs)
+
+-- what is read of a stream is a whole message exactly where the stream begins with one
+pub present-whole : (xs : List ℕ) → beginsWhole (presentPart xs) ≡ beginsWhole xs
+present-whole xs = by (beginsWhole xs) refl
+  where
+    by : (b : Bool) → beginsWhole xs ≡ b → beginsWhole (presentPart xs) ≡ beginsWhole xs
+    by true e =
+        let most = leb-true (messageLength xs) (length xs) e in
+        let size : length (firstMessage xs) ≡ messageLength xs = length-take-le (messageLength xs) xs most in
+        let same : messageLength (firstMessage xs) ≡ messageLength xs = ap (λ (n : ℕ). headerSize + n) (size-front (messageLength xs) xs (omega arith)) in
+        rw (part-whole xs e) (le-leb (messageLength (firstMessage xs)) (length (firstMessage xs)) (omega arith) ∙ sym e)
+    by false e = ap beginsWhole (part-all xs e)

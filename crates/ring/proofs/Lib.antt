@@ -1,5 +1,6 @@
 -- The laws of `ring` that other crates cite.
 pub mod Places
+pub mod Untouched
 pub mod Steps
 pub mod Sides
 pub mod Holdings

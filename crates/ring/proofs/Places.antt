@@ -24,7 +24,7 @@ module _ (area : ℕ) (page : List ℕ) where
   octets-length c zero = refl
   octets-length c (suc n) = ap suc (octets-length (c + 1) n)
 
-  octets-suc : (c n : ℕ) → octetsIn area page c (suc n) ≡ getD page (area + c % areaSize) 0 ∷ octetsIn area page (c + 1) n
+  pub octets-suc : (c n : ℕ) → octetsIn area page c (suc n) ≡ getD page (area + c % areaSize) 0 ∷ octetsIn area page (c + 1) n
   unfolding octetsIn offsets
   octets-suc c n = refl
 
@@ -91,7 +91,7 @@ parts-whole d xs ys r n long h lx ly =
     ∙ sets-all d (xs ++ ys) all
 
 module _ (area : ℕ) where
-  put-suc : (page : List ℕ) (c x : ℕ) (xs : List ℕ) → put area page c (x ∷ xs) ≡ put area (set page (area + c % areaSize) x) (c + 1) xs
+  pub put-suc : (page : List ℕ) (c x : ℕ) (xs : List ℕ) → put area page c (x ∷ xs) ≡ put area (set page (area + c % areaSize) x) (c + 1) xs
   unfolding put
   put-suc page c x xs = refl
 
@@ -190,3 +190,13 @@ module _ (area : ℕ) (page : List ℕ) (l : area + areaSize ≤ length page) wh
       ∙ parts-whole into ys zs r n long h some more
       ∙ ap₂ (λ (us vs : List ℕ). us ++ vs) first second
       ∙ sym (octets-over area page c r n here h most l)
+
+-- the first octets of a run are a shorter run
+pub octets-take : (area : ℕ) (page : List ℕ) (c k n : ℕ) → k ≤ n → take k (octetsIn area page c n) ≡ octetsIn area page c k
+octets-take area page c k n h =
+    let count : n ≡ k + (n - k) = omega arith in
+    let xs = octetsIn area page c k in
+    let ys = octetsIn area page (c + k) (n - k) in
+    ap (λ (i : ℕ). take k (octetsIn area page c i)) count
+    ∙ ap (take k) (octets-add area page c k (n - k))
+    ∙ take-at xs ys k (octets-length area page c k)

@@ -20,7 +20,7 @@ use Rattle.ring.specs.Reading.{isWhole, whole, withOctet, received, rece
 use Rattle.ring.specs.Inner.{headerMoved, payloadMoved}
 use Rattle.ring.specs.declared.Message.{Message}
 use Rattle.ring.specs.declared.Incoming.{Incoming}
-use Rattle.ring.proofs.Places.{octets-same, octets-length, octets-none, octets-add}
+use Rattle.ring.proofs.Places.{octets-same, octets-length, octets-none, octets-add, octets-take}
 
 -- the message with these parts
 abbrev pub parts : List ℕ → List ℕ → ℕ → Message
@@ -239,16 +239,6 @@ sets-over l (x ∷ xs) i (suc k) e h =
     let size = length-set l i x in
     sets-over (set l i x) xs (suc i) k (rw size (omega arith)) (rw size (omega arith))
 
--- the first octets of a run are a shorter run
-octets-take : (page : List ℕ) (c k n : ℕ) → k ≤ n → take k (octetsIn requestsAt page c n) ≡ octetsIn requestsAt page c k
-octets-take page c k n h =
-    let count : n ≡ k + (n - k) = omega arith in
-    let xs = octetsIn requestsAt page c k in
-    let ys = octetsIn requestsAt page (c + k) (n - k) in
-    ap (λ (i : ℕ). take k (octetsIn requestsAt page c i)) count
-    ∙ ap (take k) (octets-add requestsAt page c k (n - k))
-    ∙ take-at xs ys k (octets-length requestsAt page c k)
-
 -- a part of a list, lent to be filled with as many of r octets as fit there, comes back with them stored
 pub part-read : (page d y : List ℕ) (c a k r : ℕ) → y ≡ octetsIn requestsAt page c (length (take (a + k - a) (drop a d)))
     → a ≤ length d → k ≡ min (length d - a) r → putMid a (a + k - a) d y ≡ sets d a (octetsIn requestsAt page c r)
@@ -259,7 +249,7 @@ part-read page d y c a k r e h ek =
     let filled : length (take (a + k - a) (drop a d)) ≡ k = rw part (simp (length-take, length-drop) (omega arith)) in
     let size : length xs ≡ k = octets-length requestsAt page c k in
     let size-all : length ys ≡ r = octets-length requestsAt page c r in
-    let stored = sets-over d ys a k (rw size-all ek) h ∙ ap (sets d a) (octets-take page c k r (omega arith)) in
+    let stored = sets-over d ys a k (rw size-all ek) h ∙ ap (sets d a) (octets-take requestsAt page c k r (omega arith)) in
     ap₂ (λ (i : ℕ) (z : List ℕ). putMid a i d z) part (e ∙ ap (octetsIn requestsAt page c) filled)
     ∙ ap (λ (z : List ℕ). take a d ++ (xs ++ z)) (drop-drop k a d ∙ ap (λ (i : ℕ). drop (a + i) d) (sym size))
     ∙ sym (append-assoc (take a d) xs (drop (a + length xs) d))

@@ -1,0 +1,176 @@
+-- How the guest cuts its octets into events makes no difference.
+-- Assumes nothing.
+use mathlib.Core.Path.{_≡_, refl, sym, ap, _∙_}
+use mathlib.Core.List.{List, [], _∷_, _++_, append-assoc, append-nil}
+use mathlib.Core.Bool.{true, false}
+use Prim.Native.Nat.{ℕ, _^_, _≤_, _<_}
+use native.Mathlib.Omega.{arith}
+use Rattle.messages.specs.Settings.{maxQueues, settingsAtSetup}
+use Rattle.ring.specs.Page.{requestsAt, responsesAt, less, octetsIn}
+use Rattle.ring.specs.Reading.{whole}
+use Rattle.ring.specs.Streams.{beginsWhole, presentPart}
+use Rattle.ring.proofs.Places.{octets-none}
+use Rattle.ring.proofs.Holdings.{holding-none, holding-whole}
+use Rattle.backend.specs.States.{Good, interfaceAtSetup}
+use Rattle.backend.specs.Events.{After, waiting, pageWrong, requestsWrong, responsesWrong, unread, refusedWith, answeredWith}
+use Rattle.backend.specs.Events.{owes, responded, readIn, carriedOver, eventOf}
+use Rattle.backend.specs.Streams.{messagesWithin, restWithin, messagesIn, restOf, settingsAfter, acksTo, owedOctets}
+use Rattle.backend.specs.Streams.{readBy, writtenBy, stateAfter, octetsRead, octetsWritten, Served}
+use Rattle.backend.specs.declared.Interface.{Interface}
+use Rattle.backend.proofs.Branches.{Accepted, room, afterReading, event-cases}
+use Rattle.backend.proofs.Goodness.{good-interface, good-event, good-carried}
+use Rattle.backend.proofs.Falls.{stream-parts, messages-whole, rest-part, falls-so, empty-part}
+use Rattle.backend.proofs.Stages.{readTo, writtenTo, Stands, present-long, stands-read, stands-carried, stands-responded}
+
+-- to have served a stream is to stand where it falls apart, whichever way that is found
+stands-served : (q : ℕ) (s : Interface) (read written : List ℕ) (ms : List (List ℕ)) (present : List ℕ)
+    → Stands q s read written ms present → beginsWhole present ≡ false → Served q s read written
+stands-served q s read written ms present stands part =
+    let falls = falls-so ms present (stands .messages) part in
+    let all : messagesIn read ≡ ms = ap messagesIn (stands .splits) ∙ falls .0 in
+    let rest : restOf read ≡ present = ap restOf (stands .splits) ∙ falls .1 in
+    record {
+      settings = stands .settings ∙ ap (settingsAfter (settingsAtSetup q)) (sym all);
+      acks = stands .acks ∙ ap (acksTo (settingsAtSetup q)) (sym all);
+      present = rw rest (stands .held);
+    }
+
+served-stands : (q : ℕ) (s : Interface) (read written : List ℕ) → Served q s read written
+    → Stands q s read written (messagesIn read) (restOf read)
+served-stands q s read written served =
+    record {
+      splits = sym (stream-parts read);
+      messages = messages-whole read;
+      held = served .present;
+      settings = served .settings;
+      acks = served .acks;
+    }
+
+-- a new interface has served the empty stream
+pub served-none : (q : ℕ) → Served q (interfaceAtSetup q) [] []
+unfolding settingsAfter acksTo messagesWithin restWithin
+served-none q = record { settings = refl; acks = refl; present = holding-none _ refl refl refl }
+
+-- from a count to itself there are no octets
+none-in : (area : ℕ) (page : List ℕ) (c : ℕ) → c < 2 ^ 32 → octetsIn area page c (less c c) ≡ []
+none-in area page c h =
+    let none : less c c ≡ 0 = omega arith in
+    rw none (octets-none area page c)
+
+module _ (q : ℕ) (s : Interface) (page read written : List ℕ) (good : Good s) (served : Served q s read written) where
+  -- what holds of what an event leaves
+  abbrev Serves : After → Type 0
+  Serves a = Served q (a .state) (read ++ readTo s page (a .state)) (written ++ writtenTo s a)
+
+  -- the messages of the stream so far, and what is behind them
+  abbrev ms : List (List ℕ)
+  ms = messagesIn read
+
+  abbrev rest : List ℕ
+  rest = restOf read
+
+  stands : Stands q s read written ms rest
+  stands = served-stands q s read written served
+
+  -- where a count stays, nothing is read or written
+  none-read : octetsIn requestsAt page (s .incoming .«req_cons») (less (s .incoming .«req_cons») (s .incoming .«req_cons»)) ≡ []
+  none-read = none-in requestsAt page (s .incoming .«req_cons») (good .incoming .count)
+
+  none-written : (other : List ℕ)
+      → octetsIn responsesAt other (s .outgoing .«rsp_prod») (less (s .outgoing .«rsp_prod») (s .outgoing .«rsp_prod»)) ≡ []
+  none-written other = none-in responsesAt other (s .outgoing .«rsp_prod») (good .outgoing .count)
+
+  -- refused
+  serves-refused : (k : ℕ) → Serves (refusedWith k s page)
+  serves-refused k = rw (none-read, none-written page, append-nil read, append-nil written) served
+
+  -- ack octets written
+  serves-owing : Accepted s page → Serves (responded s page (room s page))
+  unfolding responded
+  serves-owing ok =
+      let next = stands-responded q s read written ms rest page (room s page) stands (good .outgoing) (ok .size) in
+      rw (none-read, append-nil read) (stands-served q _ read _ ms rest next (rest-part read))
+
+  -- octets read
+  module _ (ok : Accepted s page) where
+    abbrev after : Interface
+    after = afterReading s page
+
+    -- the stream then, and what it has behind the messages so far
+    abbrev stream : List ℕ
+    stream = read ++ readTo s page after
+
+    abbrev behind : List ℕ
+    behind = rest ++ octetsIn requestsAt page (s .incoming .«req_cons») (unread s page)
+
+    stands-after : Stands q after stream written ms (presentPart behind)
+    stands-after = stands-read q s read written ms rest good stands page (unread s page) (rest-part read) (ok .requests)
+
+    whole-after : beginsWhole (presentPart behind) ≡ whole (after .incoming .message)
+    whole-after = sym (holding-whole (after .incoming .message) (presentPart behind) (stands-after .held))
+
+    -- not whole, and nothing written
+    serves-part : whole (after .incoming .message) ≡ false → Serves (answeredWith waiting after page)
+    unfolding readIn
+    serves-part waits =
+        rw (none-written (answeredWith waiting after page .page), append-nil written)
+        (stands-served q after stream written ms (presentPart behind) stands-after (whole-after ∙ waits))
+
+    -- whole: carried out, and ack octets written
+    serves-whole : owes s ≡ false → whole (after .incoming .message) ≡ true → Serves (responded (carriedOver after) page (room s page))
+    unfolding readIn carriedOver responded
+    serves-whole idle all =
+        let one-more = ms ++ (presentPart behind ∷ []) in
+        let long = present-long behind (whole-after ∙ all) in
+        let carried = stands-carried q after stream written ms (presentPart behind) stands-after long idle in
+        let keeps = good-carried s page (unread s page) good .outgoing in
+        let next = stands-responded q (carriedOver after) stream written one-more [] page (room s page) carried keeps (ok .size) in
+        stands-served q _ stream _ one-more [] next (empty-part [] (omega arith))
+
+-- each event serves the octets that it reads, and writes acks in order
+pub served-event : (q : ℕ) (s : Interface) (page read written : List ℕ) → Good s → Served q s read written
+    → Served q (eventOf s page .state) (read ++ readBy s page) (written ++ writtenBy s page)
+served-event q s page read written good served =
+    let refused = serves-refused q s page read written good served in
+    event-cases s page (Serves q s page read written good served)
+    (λ e. refused pageWrong)
+    (λ e r. refused requestsWrong)
+    (λ e r a. refused responsesWrong)
+    (λ ok owing. serves-owing q s page read written good served ok)
+    (λ ok idle part. serves-part q s page read written good served ok part)
+    (λ ok idle all. serves-whole q s page read written good served ok idle all)
+
+-- and so do events one after the other
+served-events : (pages : List (List ℕ)) (q : ℕ) (s : Interface) (read written : List ℕ) → Good s → Served q s read written
+    → Served q (stateAfter s pages) (read ++ octetsRead s pages) (written ++ octetsWritten s pages)
+unfolding stateAfter octetsRead octetsWritten
+served-events [] q s read written good served = rw (append-nil read, append-nil written) served
+served-events (page ∷ pages) q s read written good served =
+    let next = eventOf s page .state in
+    rw (
+      ← (append-assoc read (readBy s page) (octetsRead next pages)),
+      ← (append-assoc written (writtenBy s page) (octetsWritten next pages)),
+    )
+    (served-events pages q next (read ++ readBy s page) (written ++ writtenBy s page) (good-event s page good)
+    (served-event q s page read written good served))
+
+-- for any pages given to successive events, hostile ones too: the messages carried out are those into which the stream of
+-- octets read falls, in order, each once; the settings are what they leave; and the octets written are their acks in order,
+-- up to what is still owed
+pub cuts-make-no-difference : (q : ℕ) (pages : List (List ℕ)) → 1 ≤ q → q ≤ maxQueues
+    → let new = interfaceAtSetup q in Served q (stateAfter new pages) (octetsRead new pages) (octetsWritten new pages)
+cuts-make-no-difference q pages some most =
+    served-events pages q (interfaceAtSetup q) [] [] (good-interface q some most) (served-none q)
+
+-- so events that read the same stream leave the same settings, and acks that are the same octets
+pub same-stream : (q : ℕ) (pages others : List (List ℕ)) → 1 ≤ q → q ≤ maxQueues
+    → let new = interfaceAtSetup q in octetsRead new pages ≡ octetsRead new others
+    → (stateAfter new pages .settings ≡ stateAfter new others .settings)
+    × (octetsWritten new pages ++ owedOctets (stateAfter new pages) ≡ octetsWritten new others ++ owedOctets (stateAfter new others))
+same-stream q pages others some most e =
+    let one = cuts-make-no-difference q pages some most in
+    let other = cuts-make-no-difference q others some most in
+    let same = ap messagesIn e in (
+      one .settings ∙ ap (settingsAfter (settingsAtSetup q)) same ∙ sym (other .settings),
+      one .acks ∙ ap (acksTo (settingsAtSetup q)) same ∙ sym (other .acks),
+    )

@@ -1,0 +1,97 @@
+-- Setup gives a good state, and so does every event on a good state.
+-- Assumes nothing.
+use mathlib.Core.Path.{_≡_, refl, sym, ap, _∙_}
+use mathlib.Core.List.{List}
+use mathlib.Core.Bool.{Bool, true, false, cond}
+use Prim.Native.Nat.{ℕ, _+_, _-_, _^_, _≤_, _<_}
+use native.Mathlib.Omega.{arith}
+use lib.ListN.{length}
+use borrow.Author.Tests.{ltb-true, ltb-false}
+use Rattle.toeplitz.specs.Hash.{keyLength}
+use Rattle.messages.specs.Wire.{headerSize, maxPayload, typeIn, sizeIn}
+use Rattle.messages.specs.Settings.{maxQueues, Good as GoodSettings}
+use Rattle.messages.specs.Requests.{maxAck}
+use Rattle.messages.specs.declared.Ack.{Ack}
+use Rattle.messages.proofs.Theorems.{ack-fits, good-at-setup, good-stays-good}
+use Rattle.ring.specs.Page.{areaSize, requestsAt, octetsIn}
+use Rattle.ring.specs.Reading.{whole, receivedFrom, GoodIncoming}
+use Rattle.ring.specs.Writing.{owed, fitting, sent, GoodOutgoing}
+use Rattle.ring.proofs.Sides.{Grown, grown, none-waits, good-received, good-sent, good-incoming-at-setup, good-outgoing-at-setup}
+use Rattle.backend.specs.States.{Good, interfaceAtSetup}
+use Rattle.backend.specs.Events.{After, owes, withOutgoing, responded, readIn, carriedIn, carriedOver, unread, eventOf}
+use Rattle.backend.specs.declared.Interface.{Interface}
+use Rattle.backend.proofs.Branches.{afterReading, event-cases}
+
+-- setup
+pub good-interface : (q : ℕ) → 1 ≤ q → q ≤ maxQueues → Good (interfaceAtSetup q)
+good-interface q some most =
+    record {
+      settings = good-at-setup q some most;
+      incoming = good-incoming-at-setup;
+      outgoing = good-outgoing-at-setup;
+      in-turn = λ h. absurd (omega arith);
+    }
+
+-- after writing: less is owed than before
+pub good-responded : (s : Interface) (page : List ℕ) (room : ℕ) → Good s → Good (responded s page room .state)
+unfolding responded
+good-responded s page room good =
+    record {
+      settings = good .settings;
+      incoming = good .incoming;
+      outgoing = good-sent (s .outgoing) room (good .outgoing);
+      in-turn = λ h. good .in-turn (omega arith);
+    }
+
+-- after reading
+module _ (s : Interface) (page : List ℕ) (n : ℕ) (good : Good s) where
+  pub read-idle : readIn s page n .outgoing ≡ s .outgoing
+  unfolding readIn
+  read-idle = refl
+
+  pub good-read : owes s ≡ false → whole (readIn s page n .incoming .message) ≡ false → Good (readIn s page n)
+  unfolding readIn
+  good-read idle waits =
+      let none : s .outgoing .length ≤ s .outgoing .written = ltb-false _ _ idle in
+      let nothing-owed : 0 < owed (s .outgoing) → ⊥ = λ h. omega arith in
+      record {
+        settings = good .settings;
+        incoming = good-received page (s .incoming) n (good .incoming) waits;
+        outgoing = good .outgoing;
+        in-turn = λ h. absurd (nothing-owed h);
+      }
+
+  -- the sizes of the message's parts stay
+  pub read-sizes : (length (readIn s page n .incoming .message .header) ≡ length (s .incoming .message .header))
+      × (length (readIn s page n .incoming .message .payload) ≡ length (s .incoming .message .payload))
+  unfolding readIn receivedFrom
+  read-sizes = let g = grown (octetsIn requestsAt page (s .incoming .«req_cons») n) (s .incoming .message) in (g .header, g .payload)
+
+-- after carrying out: the settings are good, the next message begins, and the ack has its place
+module _ (s : Interface) (settings : GoodSettings (s .settings)) (outgoing : GoodOutgoing (s .outgoing)) where
+  good-over : length (s .incoming .message .header) ≡ headerSize → length (s .incoming .message .payload) ≡ maxPayload
+      → s .incoming .«req_cons» < 2 ^ 32 → Good (carriedOver s)
+  unfolding carriedOver
+  good-over header payload count =
+      let m = s .incoming .message in
+      let fits = ack-fits (s .settings) (typeIn (m .header)) (sizeIn (m .header)) (m .payload) in
+      record {
+        settings = good-stays-good (s .settings) (typeIn (m .header)) (sizeIn (m .header)) (m .payload) settings (omega arith);
+        incoming = record { header = header; payload = payload; waiting = none-waits (m .header); count = count };
+        outgoing = record { size = fits .0; within = omega arith; short = fits .1; count = outgoing .count };
+        in-turn = λ h. refl;
+      }
+
+pub good-carried : (s : Interface) (page : List ℕ) (n : ℕ) → Good s → Good (carriedOver (readIn s page n))
+unfolding readIn receivedFrom
+good-carried s page n good =
+    let sizes = read-sizes s page n good in
+    good-over (readIn s page n) (good .settings) (good .outgoing) (sizes .0 ∙ good .incoming .header) (sizes .1 ∙ good .incoming .payload) (omega arith)
+
+-- an event
+pub good-event : (s : Interface) (page : List ℕ) → Good s → Good (eventOf s page .state)
+good-event s page good =
+    event-cases s page (λ (a : After). Good (a .state)) (λ e. good) (λ e r. good) (λ e r a. good)
+    (λ ok owing. good-responded s page _ good)
+    (λ ok idle part. good-read s page (unread s page) good idle part)
+    (λ ok idle all. good-responded (carriedOver (afterReading s page)) page _ (good-carried s page (unread s page) good))

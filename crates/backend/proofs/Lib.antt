@@ -1,0 +1,10 @@
+-- The laws of `backend` that other crates cite.
+pub mod Branches
+pub mod Goodness
+pub mod Steps
+pub mod Answers
+pub mod Pages
+pub mod Falls
+pub mod Stages
+pub mod Cuts
+pub mod Theorems

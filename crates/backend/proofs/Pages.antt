@@ -1,0 +1,164 @@
+-- The page that an event leaves, and what of the page it does not look at.
+-- Assumes nothing.
+use mathlib.Core.Path.{_≡_, refl, sym, ap, ap₂, _∙_}
+use mathlib.Core.List.{List}
+use mathlib.Core.Logic.{_⊎_, inl, inr, ⊎-elim}
+use mathlib.Core.Bool.{Bool, true, false, cond}
+use Prim.Native.Nat.{ℕ, _+_, _-_, _%_, _^_, _≤_, _<_}
+use native.Mathlib.Omega.{arith}
+use lib.ListN.{length, getD, drop, length-take}
+use lib.Dec.{eqb, leb}
+use Rattle.ring.specs.Page.{pageSize, areaSize, reqConsAt, reqProdAt, rspConsAt, rspProdAt, requestsAt, responsesAt, countIn, less, counted, octetsIn, put}
+use Rattle.ring.specs.Reading.{whole, receivedFrom}
+use Rattle.ring.specs.Writing.{fitting, sentOctets, sent}
+use Rattle.ring.proofs.Places.{octets-length, put-length}
+use Rattle.ring.proofs.Untouched.{counted-between, counted-behind, counted-length, counted-octets, counted-cons, counted-prod, counted-others, put-other}
+use Rattle.backend.specs.States.{Good}
+use Rattle.backend.specs.Events.{After, pageWrong, requestsWrong, responsesWrong, refusedWith, answeredWith, withOutgoing, owes, responded, readIn, carriedOver, afterRead, proceeded, unread, unreadAcks, eventOf}
+use Rattle.backend.specs.Streams.{writtenBy}
+use Rattle.backend.specs.declared.Interface.{Interface}
+use Rattle.backend.proofs.Branches.{Accepted, room, afterReading, event-cases}
+use Rattle.backend.proofs.Goodness.{good-event, good-responded, good-read, good-carried}
+
+-- ---- what changes
+
+-- an octet that is none of the two own counts
+abbrev pub NoOwnCount : ℕ → Type 0
+NoOwnCount i = ((reqProdAt ≤ i) × (i < rspProdAt)) ⊎ (requestsAt ≤ i)
+
+-- the place of an ack octet that the event wrote
+abbrev pub AckPlace : Interface → List ℕ → ℕ → Type 0
+AckPlace s page i = (j : ℕ) × (j < length (writtenBy s page)) × (i ≡ responsesAt + (s .outgoing .«rsp_prod» + j) % areaSize)
+
+counted-other : (page : List ℕ) (c p i : ℕ) → NoOwnCount i → getD (counted page c p) i 0 ≡ getD page i 0
+counted-other page c p i (inl (low, high)) = counted-between page c p i low high
+counted-other page c p i (inr high) = counted-behind page c p i high
+
+-- what is left of an octet, for a state and its page after the writing
+abbrev Kept : Interface → List ℕ → ℕ → After → Type 0
+Kept s page i a =
+    ((j : ℕ) → j < less (a .state .outgoing .«rsp_prod») (s .outgoing .«rsp_prod»)
+    → i ≡ responsesAt + (s .outgoing .«rsp_prod» + j) % areaSize → ⊥)
+    → getD (a .page) i 0 ≡ getD page i 0
+
+kept-responded : (s t : Interface) (page : List ℕ) (n i : ℕ) → t .outgoing .«rsp_prod» ≡ s .outgoing .«rsp_prod» → Good t → NoOwnCount i
+    → Kept s page i (responded t page n)
+unfolding responded
+kept-responded s t page n i same good own free =
+    let o = t .outgoing in
+    let k = fitting o n in
+    let count : less ((o .«rsp_prod» + k) % 2 ^ 32) (s .outgoing .«rsp_prod») ≡ k =
+    omega (arith, same, good .outgoing .count, good .outgoing .short) in
+    let long = length-take k (drop (o .written) (o .ack)) in
+    counted-other (put responsesAt page (o .«rsp_prod») (sentOctets o k)) _ _ i own
+    ∙ put-other responsesAt (sentOctets o k) page (o .«rsp_prod») i (λ j l e. free j (omega arith) (e ∙ ap (λ (c : ℕ). responsesAt + (c + j) % areaSize) same))
+
+over-prod : (s : Interface) (page : List ℕ) → carriedOver (afterReading s page) .outgoing .«rsp_prod» ≡ s .outgoing .«rsp_prod»
+unfolding carriedOver readIn
+over-prod s page = refl
+
+-- only the ack's octets, req_cons and rsp_prod change on the page
+pub elsewhere-same : (s : Interface) (page : List ℕ) (i : ℕ) → Good s → NoOwnCount i → (AckPlace s page i → ⊥)
+    → getD (eventOf s page .page) i 0 ≡ getD page i 0
+elsewhere-same s page i good own free =
+    event-cases s page (Kept s page i) (λ e f. refl) (λ e r f. refl) (λ e r a f. refl)
+    (λ ok owing. kept-responded s s page (room s page) i refl good own)
+    (λ ok idle part f. counted-other page _ _ i own)
+    (λ ok idle all. kept-responded s (carriedOver t) page (room s page) i (over-prod s page) (good-carried s page (unread s page) good) own)
+    (λ j l e. free (j, rw moved l, e))
+  where
+    t : Interface
+    t = afterReading s page
+
+    moved : length (writtenBy s page) ≡ less (eventOf s page .state .outgoing .«rsp_prod») (s .outgoing .«rsp_prod»)
+    moved = octets-length responsesAt (eventOf s page .page) (s .outgoing .«rsp_prod») _
+
+responded-length : (s : Interface) (page : List ℕ) (n : ℕ) → length (responded s page n .page) ≡ length page
+unfolding responded
+responded-length s page n =
+    let o = s .outgoing in
+    let xs = sentOctets o (fitting o n) in
+    counted-length (put responsesAt page (o .«rsp_prod») xs) _ _ ∙ put-length responsesAt xs page (o .«rsp_prod»)
+
+pub length-same : (s : Interface) (page : List ℕ) → length (eventOf s page .page) ≡ length page
+length-same s page =
+    event-cases s page (λ (a : After). length (a .page) ≡ length page) (λ e. refl) (λ e r. refl) (λ e r a. refl)
+    (λ ok owing. responded-length s page (room s page))
+    (λ ok idle part. counted-length page _ _)
+    (λ ok idle all. responded-length (carriedOver (afterReading s page)) page (room s page))
+
+-- the page has both own counts of the state
+abbrev Back : After → Type 0
+Back a =
+    (countIn (a .page) reqConsAt ≡ a .state .incoming .«req_cons») × (countIn (a .page) rspProdAt ≡ a .state .outgoing .«rsp_prod»)
+
+back : (s : Interface) (page : List ℕ) → Good s → length page ≡ pageSize → Back (answeredWith 0 s page)
+back s page good size =
+    let c = s .incoming .«req_cons» in
+    let p = s .outgoing .«rsp_prod» in
+    (counted-cons page c p (omega arith) (good .incoming .count), counted-prod page c p (omega arith) (good .outgoing .count))
+
+back-responded : (s : Interface) (page : List ℕ) (n : ℕ) → Good s → length page ≡ pageSize → Back (responded s page n)
+unfolding responded
+back-responded s page n good size =
+    let o = s .outgoing in
+    let xs = sentOctets o (fitting o n) in
+    back (withOutgoing s (sent o (fitting o n))) (put responsesAt page (o .«rsp_prod») xs) (good-responded s page n good)
+    (put-length responsesAt xs page (o .«rsp_prod») ∙ size)
+
+-- every event answered 0, 1 or 2 writes both own counts back
+pub counts-written : (s : Interface) (page : List ℕ) → Good s → Accepted s page
+    → (countIn (eventOf s page .page) reqConsAt ≡ eventOf s page .state .incoming .«req_cons»)
+    × (countIn (eventOf s page .page) rspProdAt ≡ eventOf s page .state .outgoing .«rsp_prod»)
+counts-written s page good ok =
+    event-cases s page Back (λ wrong. absurd (wrong (ok .size))) (λ e high. absurd (omega arith)) (λ e r high. absurd (omega arith))
+    (λ _ owing. back-responded s page (room s page) good (ok .size))
+    (λ _ idle part. back (readIn s page (unread s page)) page (good-read s page (unread s page) good idle part) (ok .size))
+    (λ _ idle all. back-responded (carriedOver (afterReading s page)) page (room s page) (good-carried s page (unread s page) good) (ok .size))
+
+-- ---- what is not read
+
+-- the same answer and state
+pub record Alike (a b : After) : Type 0 where
+  pub answer : a .answer ≡ b .answer
+  pub state : a .state ≡ b .state
+
+-- pages that agree in what an event looks at
+module _ (s : Interface) (p q : List ℕ) (octets : (n c : ℕ) → octetsIn requestsAt p c n ≡ octetsIn requestsAt q c n) where
+  alike-test : (t : Bool) (a b x y : After) → Alike a x → Alike b y → Alike (cond t a b) (cond t x y)
+  alike-test true a b x y l r = l
+  alike-test false a b x y l r = r
+
+  read-alike : (n : ℕ) → readIn s p n ≡ readIn s q n
+  unfolding readIn receivedFrom
+  read-alike n = rw (octets n (s .incoming .«req_cons»)) refl
+
+  responded-alike : (t : Interface) (n : ℕ) → Alike (responded t p n) (responded t q n)
+  unfolding responded
+  responded-alike t n = record { answer = refl; state = refl }
+
+  after-alike : (t : Interface) (n : ℕ) → Alike (afterRead t p n) (afterRead t q n)
+  unfolding afterRead
+  after-alike t n = alike-test (whole (t .incoming .message)) _ _ _ _ (responded-alike (carriedOver t) n) (record { answer = refl; state = refl })
+
+  proceeded-alike : (n k : ℕ) → Alike (proceeded s p n k) (proceeded s q n k)
+  unfolding proceeded
+  proceeded-alike n k = alike-test (owes s) _ _ _ _ (responded-alike s k) (rw (read-alike n) (after-alike (readIn s q n) k))
+
+  event-alike : length p ≡ length q → countIn p reqProdAt ≡ countIn q reqProdAt → countIn p rspConsAt ≡ countIn q rspConsAt
+      → Alike (eventOf s p) (eventOf s q)
+  unfolding eventOf
+  event-alike size prod cons =
+      let same : (k : ℕ) → Alike (refusedWith k s p) (refusedWith k s q) = λ k. record { answer = refl; state = refl } in
+      rw (size, prod, cons)
+      (alike-test (eqb (length q) pageSize) _ _ _ _
+      (alike-test (leb (unread s q) areaSize) _ _ _ _ (alike-test (leb (unreadAcks s q) areaSize) _ _ _ _ (proceeded-alike (unread s q) (room s q)) (same responsesWrong)) (same requestsWrong))
+      (same pageWrong))
+
+-- what the page says of req_cons and rsp_prod makes no difference to answer or state
+pub own-counts-not-read : (s : Interface) (page : List ℕ) (c p : ℕ) → Alike (eventOf s (counted page c p)) (eventOf s page)
+own-counts-not-read s page c p =
+    event-alike s (counted page c p) page (λ n d. counted-octets requestsAt page c p n d (omega arith))
+    (counted-length page c p)
+    (counted-others page c p reqProdAt (omega arith) (omega arith))
+    (counted-others page c p rspConsAt (omega arith) (omega arith))

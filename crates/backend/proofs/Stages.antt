@@ -1,0 +1,209 @@
+-- The stages of an event: octets read, the message carried out, its ack written. Each keeps to the stream.
+-- Assumes nothing.
+use mathlib.Core.Path.{_≡_, refl, sym, ap, ap₂, _∙_}
+use mathlib.Core.List.{List, [], _∷_, _++_, append-assoc, append-nil}
+use mathlib.Core.Bool.{Bool, true, false}
+use Prim.Native.Nat.{ℕ, _+_, _-_, _≤_}
+use native.Mathlib.Omega.{arith}
+use lib.ListN.{length, take, drop, length-append, length-take, length-drop, take-append-drop, drop-of-length-le}
+use lib.Seq.{length-take-le, take-all, take-append-le, drop-append-le, drop-drop, getD-take}
+use lib.Dec.{leb}
+use borrow.Author.Tests.{leb-true, leb-false, ltb-false}
+use Rattle.octets.proofs.Numbers.{number-same}
+use Rattle.messages.specs.Wire.{headerSize, maxPayload, typeIn, sizeIn, payloadIn}
+use Rattle.messages.specs.Settings.{settingsAtSetup}
+use Rattle.messages.specs.Requests.{ackIn, carriedOut, carriedMessage}
+use Rattle.messages.specs.declared.Settings.{Settings}
+use Rattle.messages.specs.declared.Carried.{Carried}
+use Rattle.messages.proofs.Theorems.{header-bounds-payload, header-alone}
+use Rattle.ring.specs.Page.{pageSize, areaSize, requestsAt, responsesAt, less, advanced, octetsIn, put}
+use Rattle.ring.specs.Reading.{received, receivedFrom}
+use Rattle.ring.specs.Writing.{owed, fitting, sentOctets, GoodOutgoing}
+use Rattle.ring.specs.Streams.{messageLength, beginsWhole, presentPart, Holding}
+use Rattle.ring.specs.declared.Message.{Message}
+use Rattle.ring.specs.declared.Outgoing.{Outgoing}
+use Rattle.ring.proofs.Places.{octets-length, octets-take}
+use Rattle.ring.proofs.Untouched.{counted-octets, put-stands}
+use Rattle.ring.proofs.Sides.{less-advanced}
+use Rattle.ring.proofs.Holdings.{size-take, part-whole, part-all, holding-none, holding-header, holding-received, present-most, present-prefix}
+use Rattle.backend.specs.States.{Good}
+use Rattle.backend.specs.Events.{After, owes, responded, readIn, carriedIn, carriedOver}
+use Rattle.backend.specs.Streams.{settingsAfter, acksTo, owedOctets}
+use Rattle.backend.specs.declared.Interface.{Interface}
+use Rattle.backend.proofs.Falls.{joined, Messages, first-long, joined-snoc, messages-snoc, settings-snoc, acks-snoc}
+
+-- the octets read and written on the way from s to what an event leaves
+abbrev pub readTo : Interface → List ℕ → Interface → List ℕ
+readTo s page t = octetsIn requestsAt page (s .incoming .«req_cons») (less (t .incoming .«req_cons») (s .incoming .«req_cons»))
+
+abbrev pub writtenTo : Interface → After → List ℕ
+writtenTo s a =
+    octetsIn responsesAt (a .page) (s .outgoing .«rsp_prod») (less (a .state .outgoing .«rsp_prod») (s .outgoing .«rsp_prod»))
+
+-- the stream `read` is the messages ms, all carried out, and the present message so far
+pub record Stands (q : ℕ) (s : Interface) (read written : List ℕ) (ms : List (List ℕ)) (present : List ℕ) : Type 0 where
+  pub splits : read ≡ joined ms ++ present
+  pub messages : Messages ms
+  pub held : Holding (s .incoming .message) present
+  pub settings : s .settings ≡ settingsAfter (settingsAtSetup q) ms
+  pub acks : written ++ owedOctets s ≡ acksTo (settingsAtSetup q) ms
+
+-- a present message that is whole is a message
+pub present-long : (xs : List ℕ) → beginsWhole (presentPart xs) ≡ true → length (presentPart xs) ≡ messageLength (presentPart xs)
+present-long xs w = by (beginsWhole xs) refl
+  where
+    by : (b : Bool) → beginsWhole xs ≡ b → length (presentPart xs) ≡ messageLength (presentPart xs)
+    by true e = rw (part-whole xs e) (first-long xs e)
+    by false e =
+        let all = leb-true (messageLength xs) (length xs) (ap beginsWhole (sym (part-all xs e)) ∙ w) in
+        absurd (omega (arith, leb-false (messageLength xs) (length xs) e))
+
+-- the message held is carried out as the octets read are
+module _ (st : Settings) (m : Message) (xs : List ℕ) (held : Holding m xs) (long : length xs ≡ messageLength xs) where
+  type-held : typeIn (m .header) ≡ typeIn xs
+  type-held =
+      ap typeIn (holding-header m xs held (omega arith))
+      ∙ number-same 4 (take headerSize xs) xs 0 0 (λ k l. getD-take headerSize xs (0 + k) 0 (omega arith))
+
+  size-held : sizeIn (m .header) ≡ sizeIn xs
+  size-held = ap sizeIn (holding-header m xs held (omega arith)) ∙ size-take xs
+
+  payload-held : sizeIn xs ≤ maxPayload → take (sizeIn xs) (m .payload) ≡ take (sizeIn xs) (payloadIn xs)
+  payload-held h =
+      let count : sizeIn xs ≡ length xs - headerSize = omega arith in
+      let size : length (payloadIn xs) ≡ length xs - headerSize = length-drop headerSize xs in
+      ap (λ (n : ℕ). take n (m .payload)) count
+      ∙ held .payload
+      ∙ take-all maxPayload (payloadIn xs) (omega arith)
+      ∙ sym (take-all (sizeIn xs) (payloadIn xs) (omega arith))
+
+  carried-held : carriedOut st (typeIn (m .header)) (sizeIn (m .header)) (m .payload) ≡ carriedMessage st xs []
+  carried-held =
+      ap₂ (λ (t n : ℕ). carriedOut st t n (m .payload)) type-held size-held
+      ∙ by (leb (sizeIn xs) maxPayload) refl
+      ∙ ap (carriedOut st (typeIn xs) (sizeIn xs)) (sym (append-nil (payloadIn xs)))
+    where
+      by : (b : Bool) → leb (sizeIn xs) maxPayload ≡ b
+          → carriedOut st (typeIn xs) (sizeIn xs) (m .payload) ≡ carriedOut st (typeIn xs) (sizeIn xs) (payloadIn xs)
+      by true e = header-bounds-payload st (typeIn xs) (sizeIn xs) (m .payload) (payloadIn xs) (payload-held (leb-true _ _ e))
+      by false e = header-alone st (typeIn xs) (sizeIn xs) (m .payload) (payloadIn xs) (leb-false _ _ e)
+
+-- octets of an ack sent, and those that are still owed, are those that were
+sent-rest : (o : Outgoing) (n : ℕ) → GoodOutgoing o → n ≤ owed o
+    → sentOctets o n ++ drop (o .written + n) (take (o .length) (o .ack)) ≡ drop (o .written) (take (o .length) (o .ack))
+sent-rest o n good h =
+    let front = take (o .length) (o .ack) in
+    let back = drop (o .length) (o .ack) in
+    let size : length front ≡ o .length = length-take-le (o .length) (o .ack) (omega arith) in
+    let left : length (drop (o .written) front) ≡ length front - o .written = length-drop (o .written) front in
+    let sent : sentOctets o n ≡ take n (drop (o .written) front) =
+    ap (λ (l : List ℕ). take n (drop (o .written) l)) (sym (take-append-drop (o .length) (o .ack)))
+    ∙ ap (take n) (drop-append-le (o .written) front back (omega arith))
+    ∙ take-append-le n (drop (o .written) front) back (omega arith) in
+    ap₂ (λ (xs ys : List ℕ). xs ++ ys) sent (sym (drop-drop n (o .written) front)) ∙ take-append-drop n (drop (o .written) front)
+
+-- they then stand in the response area
+written-sent : (s : Interface) (page : List ℕ) (room : ℕ) → GoodOutgoing (s .outgoing) → length page ≡ pageSize
+    → writtenTo s (responded s page room) ≡ sentOctets (s .outgoing) (fitting (s .outgoing) room)
+unfolding responded
+written-sent s page room good size =
+    let o = s .outgoing in
+    let p = o .«rsp_prod» in
+    let n = fitting o room in
+    let xs = sentOctets o n in
+    let into = put responsesAt page p xs in
+    let left : length (drop (o .written) (o .ack)) ≡ length (o .ack) - o .written = length-drop (o .written) (o .ack) in
+    let long : length xs ≡ n = length-take-le n (drop (o .written) (o .ack)) (omega arith) in
+    counted-octets responsesAt into (s .incoming .«req_cons») (advanced p n) (less (advanced p n) p) p (omega arith)
+    ∙ ap (octetsIn responsesAt into p) (less-advanced p n (good .count) (omega arith) ∙ sym long)
+    ∙ put-stands responsesAt xs page p (omega arith) (omega arith)
+
+module _ (q : ℕ) (s : Interface) (read written : List ℕ) (ms : List (List ℕ)) (present : List ℕ) where
+  module _ (good : Good s) (stands : Stands q s read written ms present) where
+    -- octets of the present message read
+    module _ (page : List ℕ) (n : ℕ) (part : beginsWhole present ≡ false) (most : n ≤ areaSize) where
+      abbrev fresh : List ℕ
+      fresh = octetsIn requestsAt page (s .incoming .«req_cons») n
+
+      read-held : Holding (readIn s page n .incoming .message) (presentPart (present ++ fresh))
+      unfolding readIn receivedFrom
+      read-held = holding-received fresh (s .incoming .message) present (stands .held) part
+
+      -- as many octets as the present message then has more
+      abbrev more : ℕ
+      more = length (presentPart (present ++ fresh)) - length present
+
+      more-most : more ≤ n
+      more-most =
+          let size : length fresh ≡ n = octets-length requestsAt page (s .incoming .«req_cons») n in
+          omega (arith, present-most (present ++ fresh), length-append present fresh)
+
+      read-count : less (readIn s page n .incoming .«req_cons») (s .incoming .«req_cons») ≡ more
+      unfolding readIn receivedFrom
+      read-count =
+          let c = s .incoming .«req_cons» in
+          let count : received fresh (s .incoming .message) .taken - s .incoming .message .taken ≡ more =
+          ap₂ (λ (a b : ℕ). a - b) (read-held .count) (stands .held .count) in
+          ap (λ (k : ℕ). less (advanced c k) c) count ∙ less-advanced c more (good .incoming .count) (omega (arith, more-most))
+
+      pub stands-read : Stands q (readIn s page n) (read ++ readTo s page (readIn s page n)) written ms (presentPart (present ++ fresh))
+      unfolding readIn
+      stands-read =
+          let c = s .incoming .«req_cons» in
+          record {
+            splits =
+                ap₂ (λ (l : List ℕ) (k : ℕ). l ++ octetsIn requestsAt page c k) (stands .splits) read-count
+                ∙ append-assoc (joined ms) present (octetsIn requestsAt page c more)
+                ∙ ap (λ (l : List ℕ). joined ms ++ (present ++ l)) (sym (octets-take requestsAt page c more n more-most))
+                ∙ ap (λ (l : List ℕ). joined ms ++ l) (sym (present-prefix present fresh part));
+            messages = stands .messages;
+            held = read-held;
+            settings = stands .settings;
+            acks = stands .acks;
+          }
+
+  -- the present message carried out
+  pub stands-carried : Stands q s read written ms present → length present ≡ messageLength present → owes s ≡ false
+      → Stands q (carriedOver s) read written (ms ++ (present ∷ [])) []
+  unfolding carriedOver
+  stands-carried stands long idle =
+      let m = s .incoming .message in
+      let o = s .outgoing in
+      let new = settingsAtSetup q in
+      let st = settingsAfter new ms in
+      let carried : carriedIn s ≡ carriedMessage st present [] =
+      carried-held (s .settings) m present (stands .held) long ∙ ap (λ (t : Settings). carriedMessage t present []) (stands .settings) in
+      let over : o .length ≤ o .written = ltb-false _ _ idle in
+      let none : owedOctets s ≡ [] =
+      drop-of-length-le (take (o .length) (o .ack)) {i = o .written} (omega (arith, length-take (o .length) (o .ack))) in
+      record {
+        splits = stands .splits ∙ sym (append-nil (joined (ms ++ (present ∷ []))) ∙ joined-snoc ms present);
+        messages = messages-snoc ms present (stands .messages) long;
+        held = holding-none _ (stands .held .header-size) (stands .held .payload-size) refl;
+        settings = ap (λ (c : Carried). c .settings) carried ∙ sym (settings-snoc new ms present);
+        acks =
+            ap (λ (l : List ℕ). written ++ l) (ap ackIn carried)
+            ∙ ap (λ (l : List ℕ). l ++ ackIn (carriedMessage st present []))
+            (sym (append-nil written) ∙ ap (λ (l : List ℕ). written ++ l) (sym none) ∙ stands .acks)
+            ∙ sym (acks-snoc new ms present);
+      }
+
+  -- octets of the ack written
+  pub stands-responded : (page : List ℕ) (room : ℕ) → Stands q s read written ms present → GoodOutgoing (s .outgoing) → length page ≡ pageSize
+      → Stands q (responded s page room .state) read (written ++ writtenTo s (responded s page room)) ms present
+  unfolding responded
+  stands-responded page room stands good size =
+      let o = s .outgoing in
+      let n = fitting o room in
+      let rest = drop (o .written + n) (take (o .length) (o .ack)) in
+      record {
+        splits = stands .splits;
+        messages = stands .messages;
+        held = stands .held;
+        settings = stands .settings;
+        acks =
+            ap (λ (l : List ℕ). written ++ l ++ rest) (written-sent s page room good size)
+            ∙ append-assoc written (sentOctets o n) rest
+            ∙ ap (λ (l : List ℕ). written ++ l) (sent-rest o n good (omega arith))
+            ∙ stands .acks;
+      }

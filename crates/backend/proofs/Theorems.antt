@@ -1,0 +1,123 @@
+-- What readers ask of an event, over the definitions alone. The contract says that the call answers what `eventOf` says;
+-- these say what that means, sentence by sentence of document 01. (The refusals are in `Answers`.)
+-- Assumes nothing.
+use mathlib.Core.Path.{_≡_, refl, sym, ap, ap₂, _∙_}
+use mathlib.Core.List.{List, _++_}
+use mathlib.Core.Bool.{Bool, true, false, cond, false≢true}
+use Prim.Native.Nat.{ℕ, _+_, _-_, _%_, _^_, _≤_, _<_}
+use native.Mathlib.Omega.{arith}
+use lib.ListN.{length, getD}
+use lib.Dec.{eqb, leb}
+use Rattle.octets.proofs.Numbers.{number-same}
+use Rattle.messages.specs.declared.Settings.{Settings}
+use Rattle.ring.specs.Page.{pageSize, areaSize, reqConsAt, reqProdAt, rspConsAt, rspProdAt, requestsAt, responsesAt, countIn, advanced, less, counted, octetsIn, put}
+use Rattle.ring.specs.Reading.{whole, received, receivedFrom}
+use Rattle.ring.specs.Streams.{beginsWhole, presentPart, Holding}
+use Rattle.ring.specs.Writing.{fitting, sentOctets}
+use Rattle.ring.proofs.Places.{octets-length, put-length}
+use Rattle.ring.proofs.Untouched.{counted-between, counted-behind, counted-length, counted-octets, put-other}
+use Rattle.ring.proofs.Holdings.{holding-whole, holding-received, present-whole}
+use Rattle.backend.specs.States.{Good}
+use Rattle.backend.specs.Events.{After, waiting, ackWritten, ackOwed, pageWrong, requestsWrong, responsesWrong, unread, unreadAcks}
+use Rattle.backend.specs.Events.{answeredWith, owes, responded, readIn, carriedIn, carriedOver, afterRead, proceeded, eventOf}
+use Rattle.backend.specs.Streams.{readBy, writtenBy, Reached, fromSetUp, fromEvent}
+use Rattle.backend.specs.declared.Interface.{Interface}
+use Rattle.backend.proofs.Branches.{Accepted, room, afterReading, event-cases}
+use Rattle.backend.proofs.Goodness.{good-interface, good-event}
+
+-- every state that calls reach from setup is good
+pub reached-good : (s : Interface) → Reached s → Good s
+reached-good s (fromSetUp q some most) = good-interface q some most
+reached-good s (fromEvent r page reached) = good-event r page (reached-good r reached)
+
+-- a response leaves settings and message, and the state carried over leaves the count
+responded-settings : (s : Interface) (page : List ℕ) (n : ℕ) → responded s page n .state .settings ≡ s .settings
+unfolding responded
+responded-settings s page n = refl
+
+responded-incoming : (s : Interface) (page : List ℕ) (n : ℕ) → responded s page n .state .incoming ≡ s .incoming
+unfolding responded
+responded-incoming s page n = refl
+
+read-settings : (s : Interface) (page : List ℕ) (n : ℕ) → readIn s page n .settings ≡ s .settings
+unfolding readIn
+read-settings s page n = refl
+
+carried-settings : (s : Interface) → carriedOver s .settings ≡ carriedIn s .settings
+unfolding carriedOver
+carried-settings s = refl
+
+read-whole : (s : Interface) (page : List ℕ) → whole (afterReading s page .incoming .message)
+    ≡ whole (received (octetsIn requestsAt page (s .incoming .«req_cons») (unread s page)) (s .incoming .message))
+unfolding readIn receivedFrom
+read-whole s page = refl
+
+-- an event at which the present message becomes whole: it is not refused, no ack is owed, and after the octets there are
+-- have been read the message is whole
+pub record BecomesWhole (s : Interface) (page : List ℕ) : Type 0 where
+  pub accepted : Accepted s page
+  pub idle : owes s ≡ false
+  pub all : whole (afterReading s page .incoming .message) ≡ true
+
+module _ (s : Interface) (page : List ℕ) where
+  -- with an ack owed nothing is read
+  pub owed-reads-none : owes s ≡ true → eventOf s page .state .incoming ≡ s .incoming
+  owed-reads-none owing =
+      event-cases s page (λ (a : After). a .state .incoming ≡ s .incoming) (λ e. refl) (λ e r. refl) (λ e r a. refl)
+      (λ ok o. responded-incoming s page (room s page))
+      (λ ok idle part. absurd (false≢true (sym idle ∙ owing)))
+      (λ ok idle all. absurd (false≢true (sym idle ∙ owing)))
+
+  -- settings change only at the event at which the message becomes whole
+  pub settings-stay : (BecomesWhole s page → ⊥) → eventOf s page .state .settings ≡ s .settings
+  settings-stay not-whole =
+      event-cases s page (λ (a : After). a .state .settings ≡ s .settings) (λ e. refl) (λ e r. refl) (λ e r a. refl)
+      (λ ok owing. responded-settings s page (room s page))
+      (λ ok idle part. read-settings s page (unread s page))
+      (λ ok idle all. absurd (not-whole (record { accepted = ok; idle = idle; all = all })))
+
+  -- and there they are those that carrying out the message leaves, and its ack is begun
+  pub carried-out : BecomesWhole s page → eventOf s page ≡ responded (carriedOver (afterReading s page)) page (room s page)
+  carried-out becomes =
+      let ok = becomes .accepted in
+      event-cases s page (λ (a : After). a ≡ responded (carriedOver (afterReading s page)) page (room s page))
+      (λ wrong. absurd (wrong (ok .size)))
+      (λ e high. absurd (omega arith))
+      (λ e r high. absurd (omega arith))
+      (λ _ owing. absurd (false≢true (sym (becomes .idle) ∙ owing)))
+      (λ _ idle part. absurd (false≢true (sym part ∙ becomes .all)))
+      (λ _ idle all. refl)
+
+  pub settings-carried : BecomesWhole s page → eventOf s page .state .settings ≡ carriedIn (afterReading s page) .settings
+  settings-carried becomes =
+      let t = afterReading s page in
+      ap (λ (a : After). a .state .settings) (carried-out becomes)
+      ∙ responded-settings (carriedOver t) page (room s page)
+      ∙ carried-settings t
+
+  -- the own counts: req_cons moves by exactly the octets read, and rsp_prod by the octets written
+  pub req-cons-moves : Good s → eventOf s page .state .incoming .«req_cons» ≡ advanced (s .incoming .«req_cons») (length (readBy s page))
+  req-cons-moves good =
+      let new = good-event s page good .incoming .count in
+      let moved = octets-length requestsAt page (s .incoming .«req_cons») (less (eventOf s page .state .incoming .«req_cons») (s .incoming .«req_cons»)) in
+      omega (arith, good .incoming .count)
+
+  pub rsp-prod-moves : Good s → eventOf s page .state .outgoing .«rsp_prod» ≡ advanced (s .outgoing .«rsp_prod») (length (writtenBy s page))
+  rsp-prod-moves good =
+      let new = good-event s page good .outgoing .count in
+      let moved = octets-length responsesAt (eventOf s page .page) (s .outgoing .«rsp_prod»)
+      (less (eventOf s page .state .outgoing .«rsp_prod») (s .outgoing .«rsp_prod»)) in
+      omega (arith, good .outgoing .count)
+
+  -- what is read of the present message, of which xs were held: with the octets in the area they make up the stream
+  module _ (xs : List ℕ) (held : Holding (s .incoming .message) xs) (good : Good s) (ok : Accepted s page) (idle : owes s ≡ false) where
+    abbrev stream : List ℕ
+    stream = xs ++ octetsIn requestsAt page (s .incoming .«req_cons») (unread s page)
+
+    -- a request whose missing octets all lie in the area is carried out at that event
+    pub carried-out-when-there : beginsWhole stream ≡ true → BecomesWhole s page
+    carried-out-when-there there =
+        let ys = octetsIn requestsAt page (s .incoming .«req_cons») (unread s page) in
+        let part : beginsWhole xs ≡ false = sym (holding-whole (s .incoming .message) xs held) ∙ good .incoming .waiting in
+        let after = holding-received ys (s .incoming .message) xs held part in
+        record { accepted = ok; idle = idle; all = read-whole s page ∙ holding-whole (received ys (s .incoming .message)) (presentPart stream) after ∙ present-whole stream ∙ there }

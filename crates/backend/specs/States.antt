@@ -1,0 +1,37 @@
+-- The state of an interface: what setup answers, and what holds of every state from then on.
+-- Assumes nothing.
+use mathlib.Core.Path.{_≡_}
+use mathlib.Core.Bool.{cond, _&&_}
+use Prim.Native.Nat.{ℕ, _<_}
+use lib.Dec.{leb}
+use Rattle.octets.specs.Outcome.{Outcome, value, refused}
+use Rattle.messages.specs.Settings.{maxQueues, settingsAtSetup, Good as GoodSettings}
+use Rattle.ring.specs.Reading.{incomingAtSetup, GoodIncoming}
+use Rattle.ring.specs.Writing.{outgoingAtSetup, owed, GoodOutgoing}
+use Rattle.backend.specs.declared.Interface.{Interface}
+use Rattle.backend.specs.declared.SetUpAnswer.{SetUpAnswer}
+
+-- refusal 6: setup with 0 or more than 64 queues
+abbrev pub queuesWrong : ℕ
+queuesWrong = 6
+
+-- a new interface: the settings at setup, nothing read, no ack, both own counts 0
+abbrev pub interfaceAtSetup : ℕ → Interface
+interfaceAtSetup queues =
+    record { settings = settingsAtSetup queues; incoming = incomingAtSetup; outgoing = outgoingAtSetup }
+
+-- what setup answers
+unfoldable pub setUpOutcome : ℕ → Outcome Interface
+setUpOutcome queues = cond (leb 1 queues && leb queues maxQueues) (value (interfaceAtSetup queues)) (refused queuesWrong)
+
+-- the number and value that an answer stands for: without an interface, what the answer holds for one is no part of it
+abbrev pub setUpOutcomeOf : SetUpAnswer → Outcome Interface
+setUpOutcomeOf r = cond (r .made) (value (r .interface)) (refused queuesWrong)
+
+-- a good state: what holds of the state of an interface from setup on
+pub record Good (s : Interface) : Type 0 where
+  pub settings : GoodSettings (s .settings)
+  pub incoming : GoodIncoming (s .incoming)
+  pub outgoing : GoodOutgoing (s .outgoing)
+  -- while ack octets are owed, nothing of a following request has been read
+  pub in-turn : 0 < owed (s .outgoing) → s .incoming .message .taken ≡ 0
