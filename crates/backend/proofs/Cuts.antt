@@ -20,7 +20,8 @@ use Rattle.backend.specs.declared.Interface.{Interface}
 use Rattle.backend.proofs.Branches.{Accepted, room, afterReading, event-cases}
 use Rattle.backend.proofs.Goodness.{good-interface, good-event, good-carried}
 use Rattle.backend.proofs.Falls.{stream-parts, messages-whole, rest-part, falls-so, empty-part}
-use Rattle.backend.proofs.Stages.{readTo, writtenTo, Stands, present-long, stands-read, stands-carried, stands-responded}
+use Rattle.backend.proofs.Arrivals.{readTo}
+use Rattle.backend.proofs.Stages.{writtenTo, Stands, present-long, stands-read, stands-carried, stands-responded}
 
 -- to have served a stream is to stand where it falls apart, whichever way that is found
 stands-served : (q : ℕ) (s : Interface) (read written : List ℕ) (ms : List (List ℕ)) (present : List ℕ)
@@ -104,7 +105,7 @@ module _ (q : ℕ) (s : Interface) (page read written : List ℕ) (good : Good s
     behind = rest ++ octetsIn requestsAt page (s .incoming .«req_cons») (unread s page)
 
     stands-after : Stands q after stream written ms (presentPart behind)
-    stands-after = stands-read q s read written ms rest good stands page (unread s page) (rest-part read) (ok .requests)
+    stands-after = stands-read q s read written ms rest page (unread s page) good stands (rest-part read) (ok .requests)
 
     whole-after : beginsWhole (presentPart behind) ≡ whole (after .incoming .message)
     whole-after = sym (holding-whole (after .incoming .message) (presentPart behind) (stands-after .held))

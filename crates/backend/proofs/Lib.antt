@@ -4,6 +4,7 @@ pub mod Goodness
 pub mod Steps
 pub mod Answers
 pub mod Pages
+pub mod Arrivals
 pub mod Falls
 pub mod Stages
 pub mod Cuts

@@ -30,12 +30,10 @@ use Rattle.backend.specs.States.{Good}
 use Rattle.backend.specs.Events.{After, owes, responded, readIn, carriedIn, carriedOver}
 use Rattle.backend.specs.Streams.{settingsAfter, acksTo, owedOctets}
 use Rattle.backend.specs.declared.Interface.{Interface}
+use Rattle.backend.proofs.Arrivals.{readTo, read-held, read-octets}
 use Rattle.backend.proofs.Falls.{joined, Messages, first-long, joined-snoc, messages-snoc, settings-snoc, acks-snoc}
 
--- the octets read and written on the way from s to what an event leaves
-abbrev pub readTo : Interface → List ℕ → Interface → List ℕ
-readTo s page t = octetsIn requestsAt page (s .incoming .«req_cons») (less (t .incoming .«req_cons») (s .incoming .«req_cons»))
-
+-- the octets written on the way from s to what an event leaves
 abbrev pub writtenTo : Interface → After → List ℕ
 writtenTo s a =
     octetsIn responsesAt (a .page) (s .outgoing .«rsp_prod») (less (a .state .outgoing .«rsp_prod») (s .outgoing .«rsp_prod»))
@@ -119,48 +117,23 @@ written-sent s page room good size =
     ∙ put-stands responsesAt xs page p (omega arith) (omega arith)
 
 module _ (q : ℕ) (s : Interface) (read written : List ℕ) (ms : List (List ℕ)) (present : List ℕ) where
-  module _ (good : Good s) (stands : Stands q s read written ms present) where
-    -- octets of the present message read
-    module _ (page : List ℕ) (n : ℕ) (part : beginsWhole present ≡ false) (most : n ≤ areaSize) where
-      abbrev fresh : List ℕ
-      fresh = octetsIn requestsAt page (s .incoming .«req_cons») n
-
-      read-held : Holding (readIn s page n .incoming .message) (presentPart (present ++ fresh))
-      unfolding readIn receivedFrom
-      read-held = holding-received fresh (s .incoming .message) present (stands .held) part
-
-      -- as many octets as the present message then has more
-      abbrev more : ℕ
-      more = length (presentPart (present ++ fresh)) - length present
-
-      more-most : more ≤ n
-      more-most =
-          let size : length fresh ≡ n = octets-length requestsAt page (s .incoming .«req_cons») n in
-          omega (arith, present-most (present ++ fresh), length-append present fresh)
-
-      read-count : less (readIn s page n .incoming .«req_cons») (s .incoming .«req_cons») ≡ more
-      unfolding readIn receivedFrom
-      read-count =
-          let c = s .incoming .«req_cons» in
-          let count : received fresh (s .incoming .message) .taken - s .incoming .message .taken ≡ more =
-          ap₂ (λ (a b : ℕ). a - b) (read-held .count) (stands .held .count) in
-          ap (λ (k : ℕ). less (advanced c k) c) count ∙ less-advanced c more (good .incoming .count) (omega (arith, more-most))
-
-      pub stands-read : Stands q (readIn s page n) (read ++ readTo s page (readIn s page n)) written ms (presentPart (present ++ fresh))
-      unfolding readIn
-      stands-read =
-          let c = s .incoming .«req_cons» in
-          record {
-            splits =
-                ap₂ (λ (l : List ℕ) (k : ℕ). l ++ octetsIn requestsAt page c k) (stands .splits) read-count
-                ∙ append-assoc (joined ms) present (octetsIn requestsAt page c more)
-                ∙ ap (λ (l : List ℕ). joined ms ++ (present ++ l)) (sym (octets-take requestsAt page c more n more-most))
-                ∙ ap (λ (l : List ℕ). joined ms ++ l) (sym (present-prefix present fresh part));
-            messages = stands .messages;
-            held = read-held;
-            settings = stands .settings;
-            acks = stands .acks;
-          }
+  -- octets of the present message read
+  pub stands-read : (page : List ℕ) (n : ℕ) → Good s → Stands q s read written ms present → beginsWhole present ≡ false → n ≤ areaSize
+      → Stands q (readIn s page n) (read ++ readTo s page (readIn s page n)) written ms
+      (presentPart (present ++ octetsIn requestsAt page (s .incoming .«req_cons») n))
+  unfolding readIn
+  stands-read page n good stands part most =
+      let octets = readTo s page (readIn s page n) in
+      record {
+        splits =
+            ap (λ (l : List ℕ). l ++ octets) (stands .splits)
+            ∙ append-assoc (joined ms) present octets
+            ∙ ap (λ (l : List ℕ). joined ms ++ l) (read-octets s page n present good (stands .held) part most);
+        messages = stands .messages;
+        held = read-held s page n present good (stands .held) part most;
+        settings = stands .settings;
+        acks = stands .acks;
+      }
 
   -- the present message carried out
   pub stands-carried : Stands q s read written ms present → length present ≡ messageLength present → owes s ≡ false

@@ -12,6 +12,7 @@ use Rattle.octets.proofs.Numbers.{number-same}
 use Rattle.messages.specs.declared.Settings.{Settings}
 use Rattle.ring.specs.Page.{pageSize, areaSize, reqConsAt, reqProdAt, rspConsAt, rspProdAt, requestsAt, responsesAt, countIn, advanced, less, counted, octetsIn, put}
 use Rattle.ring.specs.Reading.{whole, received, receivedFrom}
+use Rattle.ring.specs.declared.Incoming.{Incoming}
 use Rattle.ring.specs.Streams.{beginsWhole, presentPart, Holding}
 use Rattle.ring.specs.Writing.{fitting, sentOctets}
 use Rattle.ring.proofs.Places.{octets-length, put-length}
@@ -24,6 +25,7 @@ use Rattle.backend.specs.Streams.{readBy, writtenBy, Reached, fromSetUp,
 use Rattle.backend.specs.declared.Interface.{Interface}
 use Rattle.backend.proofs.Branches.{Accepted, room, afterReading, event-cases}
 use Rattle.backend.proofs.Goodness.{good-interface, good-event}
+use Rattle.backend.proofs.Arrivals.{read-octets}
 
 -- every state that calls reach from setup is good
 pub reached-good : (s : Interface) → Reached s → Good s
@@ -43,6 +45,10 @@ read-settings : (s : Interface) (page : List ℕ) (n : ℕ) → readIn s page n 
 unfolding readIn
 read-settings s page n = refl
 
+carried-count : (s : Interface) → carriedOver s .incoming .«req_cons» ≡ s .incoming .«req_cons»
+unfolding carriedOver
+carried-count s = refl
+
 carried-settings : (s : Interface) → carriedOver s .settings ≡ carriedIn s .settings
 unfolding carriedOver
 carried-settings s = refl
@@ -51,6 +57,21 @@ read-whole : (s : Interface) (page : List ℕ) → whole (afterReading s page .i
     ≡ whole (received (octetsIn requestsAt page (s .incoming .«req_cons») (unread s page)) (s .incoming .message))
 unfolding readIn receivedFrom
 read-whole s page = refl
+
+-- the octets are read by reading alone
+read-all : (s : Interface) (page : List ℕ) → Accepted s page → owes s ≡ false
+    → eventOf s page .state .incoming .«req_cons» ≡ afterReading s page .incoming .«req_cons»
+read-all s page ok idle =
+    event-cases s page (λ (a : After). a .state .incoming .«req_cons» ≡ t .incoming .«req_cons»)
+    (λ wrong. absurd (wrong (ok .size)))
+    (λ e high. absurd (omega arith))
+    (λ e r high. absurd (omega arith))
+    (λ _ owing. absurd (false≢true (sym idle ∙ owing)))
+    (λ _ i part. refl)
+    (λ _ i all. ap (λ (i : Incoming). i .«req_cons») (responded-incoming (carriedOver t) page (room s page)) ∙ carried-count t)
+  where
+    t : Interface
+    t = afterReading s page
 
 -- an event at which the present message becomes whole: it is not refused, no ack is owed, and after the octets there are
 -- have been read the message is whole
@@ -121,3 +142,10 @@ module _ (s : Interface) (page : List ℕ) where
         let part : beginsWhole xs ≡ false = sym (holding-whole (s .incoming .message) xs held) ∙ good .incoming .waiting in
         let after = holding-received ys (s .incoming .message) xs held part in
         record { accepted = ok; idle = idle; all = read-whole s page ∙ holding-whole (received ys (s .incoming .message)) (presentPart stream) after ∙ present-whole stream ∙ there }
+
+    -- and octets of a following message stay: the octets read are those that the present message has more
+    pub following-stays : xs ++ readBy s page ≡ presentPart stream
+    following-stays =
+        let part : beginsWhole xs ≡ false = sym (holding-whole (s .incoming .message) xs held) ∙ good .incoming .waiting in
+        ap (λ (c : ℕ). xs ++ octetsIn requestsAt page (s .incoming .«req_cons») (less c (s .incoming .«req_cons»))) (read-all s page ok idle)
+        ∙ read-octets s page (unread s page) xs good held part (ok .requests)
