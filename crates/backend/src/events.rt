@@ -3,7 +3,7 @@
 ghost use mathlib.Core.Path.{_≡_};
 ghost use Prim.Native.Nat.{_≤_};
 ghost use lib.ListN.{length};
-ghost use Rattle.ring.specs.Page.{pageSize, areaSize, counted};
+ghost use Rattle.ring.specs.Page.{pageSize, areaSize, reqProdAt, rspConsAt, countIn, less, counted};
 ghost use Rattle.ring.specs.Reading.{GoodIncoming};
 ghost use Rattle.ring.specs.Writing.{GoodOutgoing};
 ghost use Rattle.backend.specs.States.{Good};
@@ -34,7 +34,7 @@ pub fn event(interface: Interface, page: &mut [u8]) -> Handled
         };
     }
     let incoming = interface.incoming;
-    let unread = ring::difference(octets::read_u32(&page[..], REQ_PROD), incoming.req_cons);
+    let unread = unread_requests(&page[..], incoming.req_cons);
     if unread > AREA {
         return Handled {
             answer: EventAnswer::RequestCount,
@@ -42,7 +42,7 @@ pub fn event(interface: Interface, page: &mut [u8]) -> Handled
         };
     }
     let outgoing = interface.outgoing;
-    let waiting = ring::difference(outgoing.rsp_prod, octets::read_u32(&page[..], RSP_CONS));
+    let waiting = unread_responses(&page[..], outgoing.rsp_prod);
     if waiting > AREA {
         return Handled {
             answer: EventAnswer::ResponseCount,
@@ -50,6 +50,22 @@ pub fn event(interface: Interface, page: &mut [u8]) -> Handled
         };
     }
     proceed(interface, page, unread, AREA - waiting)
+}
+
+// How many octets of the request area are unread. The own req_cons counts, whatever the page says of it.
+fn unread_requests(page: &[u8], req_cons: u32) -> u32
+    requires { ⌜ length (now page) ≡ pageSize ⌝ }
+    ensures { λ r. ⌜ r ≡ less (countIn (now (page .entry)) reqProdAt) «req_cons» ⌝ }
+{
+    ring::difference(octets::read_u32(page, REQ_PROD), req_cons)
+}
+
+// How many octets of the response area the guest has not read. The own rsp_prod counts alike.
+fn unread_responses(page: &[u8], rsp_prod: u32) -> u32
+    requires { ⌜ length (now page) ≡ pageSize ⌝ }
+    ensures { λ r. ⌜ r ≡ less «rsp_prod» (countIn (now (page .entry)) rspConsAt) ⌝ }
+{
+    ring::difference(rsp_prod, octets::read_u32(page, RSP_CONS))
 }
 
 // An event with good counts: `unread` octets stand in the request area, and `room` more fit into the response area.

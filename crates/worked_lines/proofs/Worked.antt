@@ -1,4 +1,4 @@
--- The worked lines hold: the hashes by computation, the two-way answers by the law that finds them from windows alone.
+-- The worked lines hold: hashes, queue and offsets by computation, the two-way answers by the law that finds them from windows alone.
 -- Assumes nothing.
 use mathlib.Core.Path.{_≡_, refl, _∙_}
 use mathlib.Core.List.{List}
@@ -12,6 +12,8 @@ use Rattle.toeplitz.specs.TwoWay.{lastType, inputSize, Verdict, lowest, twoWayO
 use Rattle.toeplitz.proofs.Mirror.{pick, mirror}
 use Rattle.toeplitz.proofs.TwoWays.{mirrorWindow, verdict-windows}
 use Rattle.toeplitz.proofs.Theorems.{two-way-is-verdict}
+use Rattle.ring.specs.Page.{offsets}
+use Rattle.steering.specs.Steering.{queueOf}
 use Rattle.worked_lines.specs.Lines.{upFrom, countingKey, sparseKey, zeroKey, Each, none, _and_, lines}
 
 by-windows : (key : List ℕ) (t : ℕ) {v : Verdict} → length key ≡ keyLength → t ≤ lastType
@@ -19,9 +21,11 @@ by-windows : (key : List ℕ) (t : ℕ) {v : Verdict} → length key ≡ keyLeng
 by-windows key t {v} hk ht e = two-way-is-verdict key t v .1 (hk, ht, verdict-windows key t ∙ e)
 
 pub worked-lines : Each lines
-unfolding publishedHash xorBelow termAt whenSet windowAt bitsAt upFrom countingKey sparseKey zeroKey lowest pick mirror
+unfolding publishedHash xorBelow termAt whenSet windowAt bitsAt upFrom countingKey sparseKey zeroKey lowest pick mirror queueOf offsets
 worked-lines =
     refl
+    and refl
+    and refl
     and refl
     and refl
     and refl

@@ -1,10 +1,11 @@
 -- `backend::events::event` meets its contract: its tests are those of `eventOf`, in their order.
 -- Assumes nothing.
-use mathlib.Core.Path.{_≡_, refl, ap, _∙_}
-use Prim.Native.Nat.{ℕ}
+use mathlib.Core.Path.{_≡_, refl, _∙_}
+use Prim.Native.Nat.{_≤_}
+use lib.ListN.{length}
 use borrow.Author.Needs.{needs}
 use borrow.Author.Tests.{eq-eqb, ne-eqb, le-leb, lt-leb}
-use Rattle.ring.specs.Page.{less}
+use Rattle.ring.specs.Page.{pageSize, areaSize}
 use Rattle.backend.specs.Events.{unread, unreadAcks, eventOf}
 use Rattle.backend.proofs.Steps.{goes-on, event-good}
 use Rattle.backend.proofs.events.event.Statement.{statement}
@@ -15,40 +16,39 @@ unfolding eventOf
 returns c = (rw (ne-eqb _ _ (c .if1 .taken)) refl, c .before .before .pre)
 
 -- once the octets unread in the request area are known
-module _ (d : tie.After-difference) where
+module _ (d : tie.After-unread-requests) where
   abbrev start : tie.Start
-  start = d .before .before .before .before .before .before
+  start = d .before .before .before .before .before
 
-  requests : d .difference .result ≡ unread (start .args .interface) (start .args .page .now)
-  requests =
-      d .difference .ensures ∙ ap (λ (n : ℕ). less n (start .args .interface .incoming .«req_cons»)) (d .before .read-u32 .ensures)
+  size : length (start .args .page .now) ≡ pageSize
+  size = d .before .before .before .if1 .left
+
+  requests : d .unread-requests .result ≡ unread (start .args .interface) (start .args .page .now)
+  requests = d .unread-requests .ensures
 
 -- once those unread in the response area are known
-module _ (d : tie.After-difference2) where
-  abbrev counted : tie.After-difference
-  counted = d .before .before .before .before .before
+module _ (d : tie.After-unread-responses) where
+  abbrev counted : tie.After-unread-requests
+  counted = d .before .before .before .before
 
-  responses : d .difference2 .result ≡ unreadAcks (start counted .args .interface) (start counted .args .page .now)
-  responses =
-      d .difference2 .ensures ∙ ap (less (start counted .args .interface .outgoing .«rsp_prod»)) (d .before .read-u322 .ensures)
+  few : counted .unread-requests .result ≤ areaSize
+  few = d .before .before .before .if2 .left
+
+  responses : d .unread-responses .result ≡ unreadAcks (start counted .args .interface) (start counted .args .page .now)
+  responses = d .unread-responses .ensures
 
 returns-2 : tie.Need-returns-2
 unfolding eventOf
 returns-2 c =
     let d = c .before in
-    let size = d .before .before .before .before .if1 .left in
-    (rw (eq-eqb _ _ size, ← requests d, lt-leb _ _ (c .if2 .taken)) refl, start d .pre)
+    (rw (eq-eqb _ _ (size d), ← requests d, lt-leb _ _ (c .if2 .taken)) refl, start d .pre)
 
 returns-3 : tie.Need-returns-3
 unfolding eventOf
 returns-3 c =
     let e = c .before in
     let d = counted e in
-    let size = d .before .before .before .before .if1 .left in
-    let few = e .before .before .before .before .if2 .left in (
-      rw (eq-eqb _ _ size, ← requests d, le-leb _ _ few, ← responses e, lt-leb _ _ (c .if3 .taken)) refl,
-      start d .pre,
-    )
+    (rw (eq-eqb _ _ (size d), ← requests d, le-leb _ _ (few e), ← responses e, lt-leb _ _ (c .if3 .taken)) refl, start d .pre)
 
 returns-4 : tie.Need-returns-4
 returns-4 c =
@@ -56,9 +56,7 @@ returns-4 c =
     let e = go .before .before .before in
     let d = counted e in
     let a = start d .args in
-    let size = d .before .before .before .before .if1 .left in
-    let few = e .before .before .before .before .if2 .left in
-    let goes = goes-on (a .interface) (a .page .now) _ _ size (requests d) few (responses e) (go .before .before .if3 .left) in
+    let goes = goes-on (a .interface) (a .page .now) _ _ (size d) (requests d) (few e) (responses e) (go .before .before .if3 .left) in
     let same = go .proceed .ensures ∙ goes in
     (same, event-good (a .interface) (a .page .now) _ (go .proceed .result) (start d .pre) same)
 
@@ -68,10 +66,8 @@ event-spec =
     (tie.spec
     returns
     (λ c κs. search needs)
-    (λ c κs. search needs)
     (λ c. search needs)
     returns-2
-    (λ c κs. search needs)
     (λ c κs. search needs)
     (λ c. search needs)
     returns-3
