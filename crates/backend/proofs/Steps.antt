@@ -3,9 +3,9 @@
 use mathlib.Core.Path.{_≡_, refl, ap, _∙_}
 use mathlib.Core.List.{List}
 use mathlib.Core.Bool.{true, false, cond}
-use Prim.Native.Nat.{ℕ, _-_, _≤_}
+use Prim.Native.Nat.{ℕ, _-_, _≤_, _<_}
 use lib.ListN.{length}
-use borrow.Author.Tests.{eq-eqb, le-leb}
+use borrow.Author.Tests.{eq-eqb, ne-eqb, le-leb, lt-leb}
 use Rattle.messages.specs.Wire.{typeIn, sizeIn}
 use Rattle.messages.specs.Requests.{carriedOut}
 use Rattle.messages.specs.declared.Carried.{Carried}
@@ -14,7 +14,8 @@ use Rattle.ring.specs.Reading.{whole}
 use Rattle.ring.specs.Writing.{fitting, sentOctets, sent}
 use Rattle.ring.specs.declared.Outgoing.{Outgoing}
 use Rattle.backend.specs.States.{Good}
-use Rattle.backend.specs.Events.{After, ackWritten, ackOwed, waiting, unread, unreadAcks, withOutgoing, owes}
+use Rattle.backend.specs.Events.{After, waiting, ackWritten, ackOwed, pageWrong, requestsWrong, responsesWrong, unread, unreadAcks}
+use Rattle.backend.specs.Events.{refusedWith, withOutgoing, owes}
 use Rattle.backend.specs.Events.{responded, readIn, carriedIn, carriedOver, afterRead, proceeded, eventOf, after}
 use Rattle.backend.specs.declared.Interface.{Interface}
 use Rattle.backend.specs.declared.Handled.{Handled}
@@ -65,6 +66,22 @@ module _ (s t : Interface) (page : List ℕ) (n room : ℕ) (good : Good s) (idl
   proceeds-part left w q =
       let same : t .outgoing ≡ s .outgoing = ap (λ (i : Interface). i .outgoing) read ∙ read-idle s page n good in
       rw (idle, ← read, w, q, same) refl
+
+-- an event that is refused: the page is wrong, or the one count, or the other
+module _ (s : Interface) (page : List ℕ) where
+  pub refused-page : (length page ≡ pageSize → ⊥) → refusedWith pageWrong s page ≡ eventOf s page
+  unfolding eventOf
+  refused-page wrong = rw (ne-eqb _ _ wrong) refl
+
+  pub refused-requests : (n : ℕ) → length page ≡ pageSize → n ≡ unread s page → areaSize < n → refusedWith requestsWrong s page ≡ eventOf s page
+  unfolding eventOf
+  refused-requests n size requests many = rw (eq-eqb _ _ size, ← requests, lt-leb _ _ many) refl
+
+  pub refused-responses : (n m : ℕ) → length page ≡ pageSize → n ≡ unread s page → n ≤ areaSize → m ≡ unreadAcks s page → areaSize < m
+      → refusedWith responsesWrong s page ≡ eventOf s page
+  unfolding eventOf
+  refused-responses n m size requests few responses many =
+      rw (eq-eqb _ _ size, ← requests, le-leb _ _ few, ← responses, lt-leb _ _ many) refl
 
 -- an event with good counts
 pub goes-on : (s : Interface) (page : List ℕ) (n m : ℕ) → length page ≡ pageSize → n ≡ unread s page → n ≤ areaSize

@@ -2,6 +2,8 @@
 -- Assumes nothing.
 use mathlib.Core.Path.{_≡_, _∙_}
 use mathlib.Core.Bool.{false}
+use Prim.Native.Nat.{_≤_, _<_}
+use native.Mathlib.Omega.{arith}
 use borrow.Author.Needs.{needs}
 use borrow.Author.Tests.{lt-ltb, le-ltb}
 use Rattle.backend.specs.Events.{owes, proceeded}
@@ -15,7 +17,9 @@ returns : tie.Need-returns
 unfolding proceeded
 returns c =
     let d = c .before .before in
-    rw (lt-ltb _ _ (d .before .before .if1 .taken)) (d .respond .ensures)
+    let o = d .before .before .before .before .before .before .args .interface .outgoing in
+    let owing : o .written < o .length = omega (arith, d .before .before .if1 .taken) in
+    rw (lt-ltb _ _ owing) (d .respond .ensures)
 
 -- once it is known whether the message is whole
 module _ (d : tie.After-is-whole) where
@@ -29,7 +33,10 @@ module _ (d : tie.After-is-whole) where
   read = reading .read-in .result
 
   idle : owes (start .args .interface) ≡ false
-  idle = le-ltb _ _ (reading .before .before .if1 .left)
+  idle = le-ltb _ _ none-owed
+    where
+      none-owed : start .args .interface .outgoing .length ≤ start .args .interface .outgoing .written
+      none-owed = omega (arith, reading .before .before .if1 .left)
 
 respond-requires-2 : tie.Need-respond-requires-2
 respond-requires-2 c κs =
