@@ -1,24 +1,21 @@
 -- Setup gives a good state, and so does every event on a good state.
 -- Assumes nothing.
-use mathlib.Core.Path.{_≡_, refl, sym, ap, _∙_}
+use mathlib.Core.Path.{_≡_, refl, _∙_}
 use mathlib.Core.List.{List}
-use mathlib.Core.Bool.{Bool, true, false, cond}
-use Prim.Native.Nat.{ℕ, _+_, _-_, _^_, _≤_, _<_}
+use mathlib.Core.Bool.{false}
+use Prim.Native.Nat.{ℕ, _-_, _^_, _≤_, _<_}
 use native.Mathlib.Omega.{arith}
 use lib.ListN.{length}
-use borrow.Author.Tests.{ltb-true, ltb-false}
-use Rattle.toeplitz.specs.Hash.{keyLength}
+use borrow.Author.Tests.{ltb-false}
 use Rattle.messages.specs.Wire.{headerSize, maxPayload, typeIn, sizeIn}
 use Rattle.messages.specs.Settings.{maxQueues, Good as GoodSettings}
-use Rattle.messages.specs.Requests.{maxAck}
-use Rattle.messages.specs.declared.Ack.{Ack}
 use Rattle.messages.proofs.Theorems.{ack-fits, good-at-setup, good-stays-good}
-use Rattle.ring.specs.Page.{areaSize, requestsAt, octetsIn}
-use Rattle.ring.specs.Reading.{whole, receivedFrom, GoodIncoming}
-use Rattle.ring.specs.Writing.{owed, fitting, sent, GoodOutgoing}
-use Rattle.ring.proofs.Sides.{Grown, grown, none-waits, good-received, good-sent, good-incoming-at-setup, good-outgoing-at-setup}
+use Rattle.ring.specs.Page.{requestsAt, octetsIn}
+use Rattle.ring.specs.Reading.{whole, receivedFrom}
+use Rattle.ring.specs.Writing.{owed, GoodOutgoing}
+use Rattle.ring.proofs.Sides.{grown, none-waits, good-received, good-sent, good-incoming-at-setup, good-outgoing-at-setup}
 use Rattle.backend.specs.States.{Good, interfaceAtSetup}
-use Rattle.backend.specs.Events.{After, owes, withOutgoing, responded, readIn, carriedIn, carriedOver, unread, eventOf}
+use Rattle.backend.specs.Events.{After, owes, responded, readIn, carriedOver, unread, eventOf}
 use Rattle.backend.specs.declared.Interface.{Interface}
 use Rattle.backend.proofs.Branches.{afterReading, event-cases}
 
@@ -86,7 +83,8 @@ pub good-carried : (s : Interface) (page : List ℕ) (n : ℕ) → Good s → Go
 unfolding readIn receivedFrom
 good-carried s page n good =
     let sizes = read-sizes s page n good in
-    good-over (readIn s page n) (good .settings) (good .outgoing) (sizes .0 ∙ good .incoming .header) (sizes .1 ∙ good .incoming .payload) (omega arith)
+    good-over (readIn s page n) (good .settings) (good .outgoing) (sizes .0 ∙ good .incoming .header)
+    (sizes .1 ∙ good .incoming .payload) (omega arith)
 
 -- an event
 pub good-event : (s : Interface) (page : List ℕ) → Good s → Good (eventOf s page .state)

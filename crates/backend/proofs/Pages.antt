@@ -1,24 +1,27 @@
 -- The page that an event leaves, and what of the page it does not look at.
 -- Assumes nothing.
-use mathlib.Core.Path.{_≡_, refl, sym, ap, ap₂, _∙_}
+use mathlib.Core.Path.{_≡_, refl, ap, _∙_}
 use mathlib.Core.List.{List}
-use mathlib.Core.Logic.{_⊎_, inl, inr, ⊎-elim}
+use mathlib.Core.Logic.{_⊎_, inl, inr}
 use mathlib.Core.Bool.{Bool, true, false, cond}
 use Prim.Native.Nat.{ℕ, _+_, _-_, _%_, _^_, _≤_, _<_}
 use native.Mathlib.Omega.{arith}
 use lib.ListN.{length, getD, drop, length-take}
 use lib.Dec.{eqb, leb}
-use Rattle.ring.specs.Page.{pageSize, areaSize, reqConsAt, reqProdAt, rspConsAt, rspProdAt, requestsAt, responsesAt, countIn, less, counted, octetsIn, put}
+use Rattle.ring.specs.Page.{pageSize, areaSize, reqConsAt, reqProdAt, rspConsAt, rspProdAt, requestsAt, responsesAt}
+use Rattle.ring.specs.Page.{countIn, less, counted, octetsIn, put}
 use Rattle.ring.specs.Reading.{whole, receivedFrom}
 use Rattle.ring.specs.Writing.{fitting, sentOctets, sent}
 use Rattle.ring.proofs.Places.{octets-length, put-length}
-use Rattle.ring.proofs.Untouched.{counted-between, counted-behind, counted-length, counted-octets, counted-cons, counted-prod, counted-others, put-other}
+use Rattle.ring.proofs.Untouched.{counted-between, counted-behind, counted-length, counted-octets, counted-cons, counted-prod}
+use Rattle.ring.proofs.Untouched.{counted-others, put-other}
 use Rattle.backend.specs.States.{Good}
-use Rattle.backend.specs.Events.{After, pageWrong, requestsWrong, responsesWrong, refusedWith, answeredWith, withOutgoing, owes, responded, readIn, carriedOver, afterRead, proceeded, unread, unreadAcks, eventOf}
+use Rattle.backend.specs.Events.{After, pageWrong, requestsWrong, responsesWrong, unread, unreadAcks, refusedWith, answeredWith}
+use Rattle.backend.specs.Events.{withOutgoing, owes, responded, readIn, carriedOver, afterRead, proceeded, eventOf}
 use Rattle.backend.specs.Streams.{writtenBy}
 use Rattle.backend.specs.declared.Interface.{Interface}
 use Rattle.backend.proofs.Branches.{Accepted, room, afterReading, event-cases}
-use Rattle.backend.proofs.Goodness.{good-event, good-responded, good-read, good-carried}
+use Rattle.backend.proofs.Goodness.{good-responded, good-read, good-carried}
 
 -- ---- what changes
 
@@ -51,7 +54,8 @@ kept-responded s t page n i same good own free =
     omega (arith, same, good .outgoing .count, good .outgoing .short) in
     let long = length-take k (drop (o .written) (o .ack)) in
     counted-other (put responsesAt page (o .«rsp_prod») (sentOctets o k)) _ _ i own
-    ∙ put-other responsesAt (sentOctets o k) page (o .«rsp_prod») i (λ j l e. free j (omega arith) (e ∙ ap (λ (c : ℕ). responsesAt + (c + j) % areaSize) same))
+    ∙ put-other responsesAt (sentOctets o k) page (o .«rsp_prod») i
+    (λ j l e. free j (omega arith) (e ∙ ap (λ (c : ℕ). responsesAt + (c + j) % areaSize) same))
 
 over-prod : (s : Interface) (page : List ℕ) → carriedOver (afterReading s page) .outgoing .«rsp_prod» ≡ s .outgoing .«rsp_prod»
 unfolding carriedOver readIn
@@ -152,7 +156,9 @@ module _ (s : Interface) (p q : List ℕ) (octets : (n c : ℕ) → octetsIn req
       let same : (k : ℕ) → Alike (refusedWith k s p) (refusedWith k s q) = λ k. record { answer = refl; state = refl } in
       rw (size, prod, cons)
       (alike-test (eqb (length q) pageSize) _ _ _ _
-      (alike-test (leb (unread s q) areaSize) _ _ _ _ (alike-test (leb (unreadAcks s q) areaSize) _ _ _ _ (proceeded-alike (unread s q) (room s q)) (same responsesWrong)) (same requestsWrong))
+      (alike-test (leb (unread s q) areaSize) _ _ _ _
+      (alike-test (leb (unreadAcks s q) areaSize) _ _ _ _ (proceeded-alike (unread s q) (room s q)) (same responsesWrong))
+      (same requestsWrong))
       (same pageWrong))
 
 -- what the page says of req_cons and rsp_prod makes no difference to answer or state

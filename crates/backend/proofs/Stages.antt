@@ -5,7 +5,7 @@ use mathlib.Core.List.{List, [], _∷_, _++_, append-assoc, append-nil}
 use mathlib.Core.Bool.{Bool, true, false}
 use Prim.Native.Nat.{ℕ, _+_, _-_, _≤_}
 use native.Mathlib.Omega.{arith}
-use lib.ListN.{length, take, drop, length-append, length-take, length-drop, take-append-drop, drop-of-length-le}
+use lib.ListN.{length, take, drop, length-take, length-drop, take-append-drop, drop-of-length-le}
 use lib.Seq.{length-take-le, take-all, take-append-le, drop-append-le, drop-drop, getD-take}
 use lib.Dec.{leb}
 use borrow.Author.Tests.{leb-true, leb-false, ltb-false}
@@ -17,15 +17,13 @@ use Rattle.messages.specs.declared.Settings.{Settings}
 use Rattle.messages.specs.declared.Carried.{Carried}
 use Rattle.messages.proofs.Theorems.{header-bounds-payload, header-alone}
 use Rattle.ring.specs.Page.{pageSize, areaSize, requestsAt, responsesAt, less, advanced, octetsIn, put}
-use Rattle.ring.specs.Reading.{received, receivedFrom}
 use Rattle.ring.specs.Writing.{owed, fitting, sentOctets, GoodOutgoing}
 use Rattle.ring.specs.Streams.{messageLength, beginsWhole, presentPart, Holding}
 use Rattle.ring.specs.declared.Message.{Message}
 use Rattle.ring.specs.declared.Outgoing.{Outgoing}
-use Rattle.ring.proofs.Places.{octets-length, octets-take}
 use Rattle.ring.proofs.Untouched.{counted-octets, put-stands}
 use Rattle.ring.proofs.Sides.{less-advanced}
-use Rattle.ring.proofs.Holdings.{size-take, part-whole, part-all, holding-none, holding-header, holding-received, present-most, present-prefix}
+use Rattle.ring.proofs.Holdings.{size-take, part-whole, part-all, holding-none, holding-header}
 use Rattle.backend.specs.States.{Good}
 use Rattle.backend.specs.Events.{After, owes, responded, readIn, carriedIn, carriedOver}
 use Rattle.backend.specs.Streams.{settingsAfter, acksTo, owedOctets}

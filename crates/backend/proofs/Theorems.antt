@@ -1,26 +1,21 @@
 -- What readers ask of an event, over the definitions alone. The contract says that the call answers what `eventOf` says;
 -- these say what that means, sentence by sentence of document 01. (The refusals are in `Answers`.)
 -- Assumes nothing.
-use mathlib.Core.Path.{_≡_, refl, sym, ap, ap₂, _∙_}
+use mathlib.Core.Path.{_≡_, refl, sym, ap, _∙_}
 use mathlib.Core.List.{List, _++_}
-use mathlib.Core.Bool.{Bool, true, false, cond, false≢true}
-use Prim.Native.Nat.{ℕ, _+_, _-_, _%_, _^_, _≤_, _<_}
+use mathlib.Core.Bool.{true, false, false≢true}
+use Prim.Native.Nat.{ℕ, _+_, _-_}
 use native.Mathlib.Omega.{arith}
-use lib.ListN.{length, getD}
-use lib.Dec.{eqb, leb}
-use Rattle.octets.proofs.Numbers.{number-same}
-use Rattle.messages.specs.declared.Settings.{Settings}
-use Rattle.ring.specs.Page.{pageSize, areaSize, reqConsAt, reqProdAt, rspConsAt, rspProdAt, requestsAt, responsesAt, countIn, advanced, less, counted, octetsIn, put}
+use lib.ListN.{length}
+use Rattle.ring.specs.Page.{requestsAt, responsesAt, advanced, less, octetsIn}
 use Rattle.ring.specs.Reading.{whole, received, receivedFrom}
 use Rattle.ring.specs.declared.Incoming.{Incoming}
 use Rattle.ring.specs.Streams.{beginsWhole, presentPart, Holding}
-use Rattle.ring.specs.Writing.{fitting, sentOctets}
-use Rattle.ring.proofs.Places.{octets-length, put-length}
-use Rattle.ring.proofs.Untouched.{counted-between, counted-behind, counted-length, counted-octets, put-other}
+use Rattle.ring.proofs.Places.{octets-length}
 use Rattle.ring.proofs.Holdings.{holding-whole, holding-received, present-whole}
 use Rattle.backend.specs.States.{Good}
-use Rattle.backend.specs.Events.{After, waiting, ackWritten, ackOwed, pageWrong, requestsWrong, responsesWrong, unread, unreadAcks}
-use Rattle.backend.specs.Events.{answeredWith, owes, responded, readIn, carriedIn, carriedOver, afterRead, proceeded, eventOf}
+use Rattle.backend.specs.Events.{After, waiting, unread}
+use Rattle.backend.specs.Events.{owes, responded, readIn, carriedIn, carriedOver, eventOf}
 use Rattle.backend.specs.Streams.{readBy, writtenBy, Reached, fromSetUp, fromEvent}
 use Rattle.backend.specs.declared.Interface.{Interface}
 use Rattle.backend.proofs.Branches.{Accepted, room, afterReading, event-cases}
@@ -120,7 +115,8 @@ module _ (s : Interface) (page : List ℕ) where
   pub req-cons-moves : Good s → eventOf s page .state .incoming .«req_cons» ≡ advanced (s .incoming .«req_cons») (length (readBy s page))
   req-cons-moves good =
       let new = good-event s page good .incoming .count in
-      let moved = octets-length requestsAt page (s .incoming .«req_cons») (less (eventOf s page .state .incoming .«req_cons») (s .incoming .«req_cons»)) in
+      let moved = octets-length requestsAt page (s .incoming .«req_cons»)
+      (less (eventOf s page .state .incoming .«req_cons») (s .incoming .«req_cons»)) in
       omega (arith, good .incoming .count)
 
   pub rsp-prod-moves : Good s → eventOf s page .state .outgoing .«rsp_prod» ≡ advanced (s .outgoing .«rsp_prod») (length (writtenBy s page))
@@ -141,7 +137,8 @@ module _ (s : Interface) (page : List ℕ) where
         let ys = octetsIn requestsAt page (s .incoming .«req_cons») (unread s page) in
         let part : beginsWhole xs ≡ false = sym (holding-whole (s .incoming .message) xs held) ∙ good .incoming .waiting in
         let after = holding-received ys (s .incoming .message) xs held part in
-        record { accepted = ok; idle = idle; all = read-whole s page ∙ holding-whole (received ys (s .incoming .message)) (presentPart stream) after ∙ present-whole stream ∙ there }
+        let same = holding-whole (received ys (s .incoming .message)) (presentPart stream) after in
+        record { accepted = ok; idle = idle; all = read-whole s page ∙ same ∙ present-whole stream ∙ there }
 
     -- and octets of a following message stay: the octets read are those that the present message has more
     pub following-stays : xs ++ readBy s page ≡ presentPart stream

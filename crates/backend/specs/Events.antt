@@ -10,8 +10,7 @@ use Rattle.messages.specs.Requests.{carriedOut}
 use Rattle.messages.specs.declared.Carried.{Carried}
 use Rattle.ring.specs.Page.{pageSize, areaSize, reqProdAt, rspConsAt, responsesAt, countIn, less, counted, put}
 use Rattle.ring.specs.Reading.{whole, receivedFrom}
-use Rattle.ring.specs.Writing.{owed, fitting, sentOctets, sent}
-use Rattle.ring.specs.declared.Message.{Message}
+use Rattle.ring.specs.Writing.{fitting, sentOctets, sent}
 use Rattle.ring.specs.declared.Incoming.{Incoming}
 use Rattle.ring.specs.declared.Outgoing.{Outgoing}
 use Rattle.backend.specs.declared.Interface.{Interface}

@@ -1,10 +1,17 @@
 // The file `cases` that the test programs run: cases one after the other. A case is its kind, an octet, the
 // length of its body, two octets, and the body.
-ghost use Prim.Native.Nat.{_<_};
+ghost use Prim.Native.Nat.{_+_, _≤_, _<_};
 ghost use lib.ListN.{length};
 ghost use Rattle.io.specs.Counts.{Counts};
 ghost use Rattle.cases.specs.Cases.{Within};
-use libc::STDOUT_FILENO;
+
+mod print;
+
+pub use print::print_cut;
+pub use print::print_digest;
+pub use print::print_hex;
+pub use print::print_number;
+pub use print::print_word;
 
 // Where a case's body stands and ends; or a case cut short.
 pub enum Case {
@@ -41,7 +48,7 @@ pub fn case_at(cases: &[u8], at: usize) -> Case
         return Case::Cut;
     }
     let start = at + HEAD;
-    let n = wide(cases[at + 1]) + 256 * wide(cases[at + 2]);
+    let n = number_at(cases, at + 1);
     if cases.len() - start < n {
         return Case::Cut;
     }
@@ -51,9 +58,12 @@ pub fn case_at(cases: &[u8], at: usize) -> Case
     }
 }
 
-// Says that a case is cut short.
-pub fn print_cut() {
-    io::write_all(STDOUT_FILENO, b"cut\n");
+// The number in the two octets from `at` on, the lowest first.
+pub fn number_at(octets: &[u8], at: usize) -> usize
+    requires { ⌜ at + 2 ≤ length (now octets) ⌝ }
+    ensures { λ r. ⌜ r < 65536 ⌝ }
+{
+    wide(octets[at]) + 256 * wide(octets[at + 1])
 }
 
 // An octet as a length.

@@ -10,8 +10,8 @@ use answers::print_carried;
 use answers::print_written;
 use cases::Case;
 use cases::case_at;
+use cases::number_at;
 use cases::print_cut;
-use cases::wide;
 use frontend::Written;
 use messages::MAX_PAYLOAD;
 use messages::Settings;
@@ -127,7 +127,7 @@ fn payload_of(kept: &[u8]) -> [u8; MAX_PAYLOAD]
 fn write(kind: u8, body: &[u8])
     requires { ⌜ 2 ≤ length (now body) ⌝ }
 {
-    let room = wide(body[0]) + 256 * wide(body[1]);
+    let room = number_at(body, 0);
     if room > MAX_BUFFER {
         print_cut();
         return;

@@ -14,7 +14,8 @@ use Rattle.octets.proofs.Numbers.{number-octets-alone}
 use Rattle.toeplitz.specs.Hash.{keyLength}
 use Rattle.messages.specs.Wire.{maxPayload, fieldSize, message, statusIn, ackType, success}
 use Rattle.messages.specs.Settings.{maxQueues, isPowerBelow, isPowerOfTwo, isListed, settingsAtSetup, Good}
-use Rattle.messages.specs.Requests.{requestOf, statusOf, replaced, statusPayload, ackPayload, maxAck, ackIn, ackStatus, answered, carriedBy, carriedOut}
+use Rattle.messages.specs.Requests.{requestOf, statusOf, replaced, statusPayload, ackPayload, maxAck, ackIn, ackStatus}
+use Rattle.messages.specs.Requests.{answered, carriedBy, carriedOut}
 use Rattle.messages.specs.declared.Settings.{Settings}
 use Rattle.messages.proofs.Powers.{power-exactly, listed-parts, exponent-most}
 use Rattle.messages.proofs.Parts.{number-payload}

@@ -1,10 +1,10 @@
 -- What readers and callers ask of the kind of a packet: each kind has the octets that its hash input takes, so the
 -- input is a part of the packet, as long as document 01 says.
 -- Assumes nothing.
-use mathlib.Core.Path.{_≡_, refl, sym, _∙_}
+use mathlib.Core.Path.{_≡_, refl}
 use mathlib.Core.List.{List}
 use mathlib.Core.Bool.{Bool, true, false, cond}
-use Prim.Native.Nat.{ℕ, zero, suc, _+_, _≤_}
+use Prim.Native.Nat.{ℕ, suc, _+_, _≤_}
 use native.Mathlib.Omega.{arith}
 use lib.ListN.{length, drop, length-drop}
 use lib.Seq.{length-take-le}
@@ -49,7 +49,8 @@ module _ (p : List ℕ) where
 
   -- a packet has all octets of the input of its own type, which is one of the four
   pub input-inside : (t : ℕ) → kindOf p ≡ hashType t → (t ≤ lastType) × (inputStart t + inputSize t ≤ length p)
-  input-inside t e = kind-cases Inside no-type (of-type 0 (omega arith)) (of-type 1 (omega arith)) (of-type 2 (omega arith)) (of-type 3 (omega arith)) t e
+  input-inside t e =
+      kind-cases Inside no-type (of-type 0 (omega arith)) (of-type 1 (omega arith)) (of-type 2 (omega arith)) (of-type 3 (omega arith)) t e
     where
       Inside : PacketType → Type 0
       Inside k = (u : ℕ) → k ≡ hashType u → (u ≤ lastType) × (inputStart u + inputSize u ≤ length p)

@@ -254,6 +254,7 @@ present-whole xs = by (beginsWhole xs) refl
     by true e =
         let most = leb-true (messageLength xs) (length xs) e in
         let size : length (firstMessage xs) ≡ messageLength xs = length-take-le (messageLength xs) xs most in
-        let same : messageLength (firstMessage xs) ≡ messageLength xs = ap (λ (n : ℕ). headerSize + n) (size-front (messageLength xs) xs (omega arith)) in
+        let same : messageLength (firstMessage xs) ≡ messageLength xs =
+        ap (λ (n : ℕ). headerSize + n) (size-front (messageLength xs) xs (omega arith)) in
         rw (part-whole xs e) (le-leb (messageLength (firstMessage xs)) (length (firstMessage xs)) (omega arith) ∙ sym e)
     by false e = ap beginsWhole (part-all xs e)

@@ -2,12 +2,12 @@
 -- such a run and another from the area's start.
 -- Assumes nothing.
 use mathlib.Core.Path.{_≡_, refl, sym, ap, ap₂, _∙_}
-use mathlib.Core.List.{List, [], _∷_, _++_, append-assoc, append-nil}
-use Prim.Native.Nat.{ℕ, zero, suc, _+_, _-_, _%_, _^_, _≤_, _<_}
+use mathlib.Core.List.{List, [], _∷_, _++_, append-assoc}
+use Prim.Native.Nat.{ℕ, zero, suc, _+_, _-_, _%_, _≤_}
 use native.Mathlib.Nat.{add-zero, zero-add}
 use native.Mathlib.Omega.{arith}
-use lib.ListN.{length, getD, set, take, drop, length-set, length-take, length-drop, length-append, take-append-drop, drop-of-length-le}
-use lib.Seq.{sets, sets-eq, length-sets, length-take-le, take-suc, drop-cons, take-at, drop-at, drop-drop, take-all, take-take, set-out}
+use lib.ListN.{length, getD, set, take, drop, length-set, length-drop, length-append, take-append-drop}
+use lib.Seq.{sets, sets-eq, length-sets, length-take-le, drop-cons, take-at, drop-drop, take-all}
 use borrow.Rule.Slice.PartMut.{putMid}
 use Rattle.octets.proofs.Copies.{sets-append, sets-all}
 use Rattle.ring.specs.Page.{areaSize, offsets, octetsIn, put}
@@ -162,7 +162,8 @@ module _ (area : ℕ) where
       let back : length (drop r xs) ≡ length xs - r = length-drop r xs in
       let rest : zs ≡ drop r xs = ez ∙ take-all k (drop r xs) (omega arith) in
       let first : putMid start i page ys ≡ sets page start (take r xs) =
-      ap₂ (λ (n : ℕ) (vs : List ℕ). putMid start n page vs) ei (ey ∙ ap (λ (m : ℕ). take m xs) ef) ∙ part-sets page (take r xs) start r front (omega arith) in
+      ap₂ (λ (n : ℕ) (vs : List ℕ). putMid start n page vs) ei (ey ∙ ap (λ (m : ℕ). take m xs) ef)
+      ∙ part-sets page (take r xs) start r front (omega arith) in
       let long : length (sets page start (take r xs)) ≡ length page = length-sets page start (take r xs) in
       ap₂ (λ (n : ℕ) (vs : List ℕ). putMid area n (putMid start i page ys) vs) ej rest
       ∙ ap (λ (p : List ℕ). putMid area (length xs - r) p (drop r xs)) first

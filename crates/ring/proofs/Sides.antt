@@ -1,17 +1,17 @@
 -- Both sides of a ring stay good, and octets are counted as they are moved.
 -- Assumes nothing.
-use mathlib.Core.Path.{_≡_, refl, sym, ap, _∙_}
+use mathlib.Core.Path.{_≡_, refl, _∙_}
 use mathlib.Core.List.{List, [], _∷_}
 use mathlib.Core.Bool.{Bool, true, false, cond}
-use Prim.Native.Nat.{ℕ, suc, _+_, _-_, _%_, _^_, _≤_, _<_, min}
+use Prim.Native.Nat.{ℕ, suc, _+_, _-_, _^_, _≤_, _<_}
 use native.Mathlib.Omega.{arith}
-use lib.ListN.{length, set, length-set}
+use lib.ListN.{length, length-set}
 use lib.Dec.{ltb}
 use borrow.Author.Tests.{lt-leb}
-use Rattle.messages.specs.Wire.{headerSize, maxPayload, sizeIn}
+use Rattle.messages.specs.Wire.{headerSize, sizeIn}
 use Rattle.ring.specs.Page.{requestsAt, advanced, less, octetsIn}
 use Rattle.ring.specs.Reading.{isWhole, whole, withOctet, received, receivedFrom, incomingAtSetup, GoodIncoming}
-use Rattle.ring.specs.Writing.{owed, fitting, sent, outgoingAtSetup, GoodOutgoing}
+use Rattle.ring.specs.Writing.{fitting, sent, outgoingAtSetup, GoodOutgoing}
 use Rattle.ring.specs.declared.Message.{Message}
 use Rattle.ring.specs.declared.Incoming.{Incoming}
 use Rattle.ring.specs.declared.Outgoing.{Outgoing}

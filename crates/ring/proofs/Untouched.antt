@@ -2,7 +2,6 @@
 -- Assumes nothing.
 use mathlib.Core.Path.{_≡_, refl, sym, ap, ap₂, _∙_}
 use mathlib.Core.List.{List, [], _∷_}
-use mathlib.Core.Logic.{_⊎_, inl, inr}
 use Prim.Native.Nat.{ℕ, zero, suc, _+_, _%_, _^_, _≤_, _<_}
 use native.Mathlib.Nat.{add-zero, zero-add}
 use native.Mathlib.Omega.{arith}
@@ -11,7 +10,7 @@ use lib.Seq.{sets, length-sets, getD-set-same, getD-set-other}
 use Rattle.octets.specs.Numbers.{octetsOf}
 use Rattle.octets.proofs.Numbers.{length-octets, number-same, number-octets-alone}
 use Rattle.ring.proofs.Places.{octets-suc, octets-none, put-suc}
-use Rattle.ring.specs.Page.{areaSize, reqConsAt, reqProdAt, rspConsAt, rspProdAt, countIn, counted, offsets, octetsIn, put}
+use Rattle.ring.specs.Page.{areaSize, reqConsAt, rspProdAt, countIn, counted, offsets, octetsIn, put}
 
 -- stores at a run of places, and an octet before or behind it
 sets-before : (vs l : List ℕ) (a i : ℕ) → i < a → getD (sets l a vs) i 0 ≡ getD l i 0

@@ -1,10 +1,10 @@
--- `message_vectors::answers::digest` ends and reads no octet outside; the sum stays below 2 ^ 32.
+-- `cases::print::digest` ends and reads no octet outside; the sum stays below 2 ^ 32.
 -- Assumes nothing.
 use Prim.Native.Nat.{_-_, _^_, _≤_, _<_}
 use lib.ListN.{length}
 use borrow.Author.Needs.{needs}
-use Rattle.message_vectors.proofs.answers.digest.Statement.{statement}
-use Rattle.message_vectors.proofs.answers.digest.Tie as tie
+use Rattle.cases.proofs.print.digest.Statement.{statement}
+use Rattle.cases.proofs.print.digest.Tie as tie
 
 abbrev Inv-loop : tie.InvT-loop
 Inv-loop octets sum₀ i₀ sum i = (sum < 2 ^ 32) × (i ≤ length octets)

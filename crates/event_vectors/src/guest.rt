@@ -1,0 +1,115 @@
+// What the guest does to the page between the calls.
+ghost use mathlib.Core.Path.{_≡_};
+ghost use lib.ListN.{length};
+use cases::number_at;
+use cases::print_cut;
+use ring::AREA;
+use ring::REQ_CONS;
+use ring::REQ_PROD;
+use ring::REQUESTS;
+use ring::RSP_CONS;
+use ring::RSP_PROD;
+
+// The kinds: octets put at a place, octets made there, octets sent, and octets of acks taken.
+const PATCH: u8 = 1;
+
+const FILL: u8 = 2;
+
+const SEND: u8 = 5;
+
+pub(crate) fn act(page: &mut [u8], kind: u8, body: &[u8])
+    requires { ⌜ length (now page) ≡ 4160 ⌝ }
+{
+    if kind == PATCH {
+        patch(page, body);
+    } else if kind == FILL {
+        fill(page, body);
+    } else if kind == SEND {
+        send(page, body);
+    } else {
+        take(page, body);
+    }
+}
+
+// The place, and the octets.
+fn patch(page: &mut [u8], body: &[u8]) {
+    if body.len() < 2 {
+        print_cut();
+        return;
+    }
+    let at = number_at(body, 0);
+    let n = body.len() - 2;
+    if page.len() < at {
+        print_cut();
+        return;
+    }
+    if page.len() - at < n {
+        print_cut();
+        return;
+    }
+    octets::copy(&mut page[at..at + n], &body[2..]);
+}
+
+// The place, how many octets, and the seed that they are made from.
+fn fill(page: &mut [u8], body: &[u8]) {
+    if body.len() < 8 {
+        print_cut();
+        return;
+    }
+    let at = number_at(body, 0);
+    let end = at + number_at(body, 2);
+    if page.len() < end {
+        print_cut();
+        return;
+    }
+    make(&mut page[at..end], octets::read_u32(body, 4));
+}
+
+// Octets that differ from each other, so that one at the wrong place is seen.
+fn make(part: &mut [u8], seed: u32) {
+    let mut x = seed as u64;
+    let mut i: usize = 0;
+    while i < part.len() {
+        x = (x * 1103515245 + 12345) % 4294967296;
+        part[i] = (x / 65536 % 256) as u8;
+        i += 1;
+    }
+}
+
+// Puts octets into the request area behind those sent before.
+fn send(page: &mut [u8], body: &[u8])
+    requires { ⌜ length (now page) ≡ 4160 ⌝ }
+{
+    let mut count = octets::read_u32(&page[..], REQ_PROD);
+    let mut i: usize = 0;
+    while i < body.len() {
+        let place = (count % AREA) as usize;
+        page[REQUESTS + place] = body[i];
+        count = std::num::wrapping_add_u32(count, 1);
+        i += 1;
+    }
+    octets::write_u32(page, REQ_PROD, count);
+}
+
+// So many more octets of acks have been read.
+fn take(page: &mut [u8], body: &[u8])
+    requires { ⌜ length (now page) ≡ 4160 ⌝ }
+{
+    if body.len() < 4 {
+        print_cut();
+        return;
+    }
+    let taken = octets::read_u32(&page[..], RSP_CONS);
+    let more = octets::read_u32(body, 0);
+    octets::write_u32(page, RSP_CONS, std::num::wrapping_add_u32(taken, more));
+}
+
+// Counts by which nothing stands unread in either area.
+pub(crate) fn empty_areas(page: &mut [u8], requests: u32, responses: u32)
+    requires { ⌜ length (now page) ≡ 4160 ⌝ }
+{
+    octets::write_u32(page, REQ_CONS, requests);
+    octets::write_u32(page, REQ_PROD, requests);
+    octets::write_u32(page, RSP_CONS, responses);
+    octets::write_u32(page, RSP_PROD, responses);
+}
