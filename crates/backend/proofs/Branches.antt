@@ -10,67 +10,55 @@ use borrow.Author.Tests.{eqb-true, eqb-false, leb-true, leb-false}
 use Rattle.ring.specs.Page.{pageSize, areaSize}
 use Rattle.ring.specs.Reading.{whole}
 use Rattle.backend.specs.Events.{After, waiting, pageWrong, requestsWrong, responsesWrong, unread, unreadAcks}
-use Rattle.backend.specs.Events.{refusedWith, answeredWith, owes, responded, readIn, carriedOver, afterRead, proceeded, eventOf}
+use Rattle.backend.specs.Events.{refusedWith, answeredWith, owes, responded, carriedOver, afterRead, proceeded, eventOf}
+use Rattle.backend.specs.Rules.{Accepted, room, afterReading}
 use Rattle.backend.specs.declared.Interface.{Interface}
-
--- what holds of the page and the counts where an event is not refused
-pub record Accepted (s : Interface) (page : List ℕ) : Type 0 where
-  pub size : length page ≡ pageSize
-  pub requests : unread s page ≤ areaSize
-  pub responses : unreadAcks s page ≤ areaSize
 
 -- what holds of a choice, where it holds of both sides
 by-test : {A : Type 0} (P : A → Type 0) (t : Bool) (a b : A) → (t ≡ true → P a) → (t ≡ false → P b) → P (cond t a b)
 by-test P true a b p q = p refl
 by-test P false a b p q = q refl
 
-module _ (s : Interface) (page : List ℕ) where
-  -- the room for ack octets, and the state once octets have been read
-  abbrev pub room : ℕ
-  room = areaSize - unreadAcks s page
+module _ (s : Interface) (page : List ℕ) (P : After → Type 0) where
+  pub proceeded-cases :
+      (owes s ≡ true → P (responded s page (room s page)))
+      → (owes s ≡ false → whole (afterReading s page .incoming .message) ≡ false → P (answeredWith waiting (afterReading s page) page))
+      → (owes s ≡ false → whole (afterReading s page .incoming .message) ≡ true
+      → P (responded (carriedOver (afterReading s page)) page (room s page)))
+      → P (proceeded s page (unread s page) (room s page))
+  unfolding proceeded afterRead
+  proceeded-cases owing part all =
+      by-test P (owes s) _ _ owing
+      (λ idle. by-test P (whole (afterReading s page .incoming .message)) _ _ (λ w. all idle w) (λ w. part idle w))
 
-  abbrev pub afterReading : Interface
-  afterReading = readIn s page (unread s page)
+  -- refused by 3, 4 or 5, each where its condition is the first that holds; or accepted
+  pub event-ways :
+      ((length page ≡ pageSize → ⊥) → P (refusedWith pageWrong s page))
+      → (length page ≡ pageSize → areaSize < unread s page → P (refusedWith requestsWrong s page))
+      → (length page ≡ pageSize → unread s page ≤ areaSize → areaSize < unreadAcks s page → P (refusedWith responsesWrong s page))
+      → (Accepted s page → P (proceeded s page (unread s page) (room s page)))
+      → P (eventOf s page)
+  unfolding eventOf
+  event-ways three four five go =
+      by-test P (eqb (length page) pageSize) _ _
+      (λ e. let size = eqb-true _ _ e in
+      by-test P (leb (unread s page) areaSize) _ _
+      (λ r. let requests = leb-true _ _ r in
+      by-test P (leb (unreadAcks s page) areaSize) _ _
+      (λ a. go (record { size = size; requests = requests; responses = leb-true _ _ a }))
+      (λ a. five size requests (leb-false _ _ a)))
+      (λ r. four size (leb-false _ _ r)))
+      (λ e. three (eqb-false _ _ e))
 
-  module _ (P : After → Type 0) where
-    pub proceeded-cases :
-        (owes s ≡ true → P (responded s page room))
-        → (owes s ≡ false → whole (afterReading .incoming .message) ≡ false → P (answeredWith waiting afterReading page))
-        → (owes s ≡ false → whole (afterReading .incoming .message) ≡ true → P (responded (carriedOver afterReading) page room))
-        → P (proceeded s page (unread s page) room)
-    unfolding proceeded afterRead
-    proceeded-cases owing part all =
-        by-test P (owes s) _ _ owing
-        (λ idle. by-test P (whole (afterReading .incoming .message)) _ _ (λ w. all idle w) (λ w. part idle w))
-
-    -- refused by 3, 4 or 5, each where its condition is the first that holds; or accepted
-    pub event-ways :
-        ((length page ≡ pageSize → ⊥) → P (refusedWith pageWrong s page))
-        → (length page ≡ pageSize → areaSize < unread s page → P (refusedWith requestsWrong s page))
-        → (length page ≡ pageSize → unread s page ≤ areaSize → areaSize < unreadAcks s page → P (refusedWith responsesWrong s page))
-        → (Accepted s page → P (proceeded s page (unread s page) room))
-        → P (eventOf s page)
-    unfolding eventOf
-    event-ways three four five go =
-        by-test P (eqb (length page) pageSize) _ _
-        (λ e. let size = eqb-true _ _ e in
-        by-test P (leb (unread s page) areaSize) _ _
-        (λ r. let requests = leb-true _ _ r in
-        by-test P (leb (unreadAcks s page) areaSize) _ _
-        (λ a. go (record { size = size; requests = requests; responses = leb-true _ _ a }))
-        (λ a. five size requests (leb-false _ _ a)))
-        (λ r. four size (leb-false _ _ r)))
-        (λ e. three (eqb-false _ _ e))
-
-    pub event-cases :
-        ((length page ≡ pageSize → ⊥) → P (refusedWith pageWrong s page))
-        → (length page ≡ pageSize → areaSize < unread s page → P (refusedWith requestsWrong s page))
-        → (length page ≡ pageSize → unread s page ≤ areaSize → areaSize < unreadAcks s page → P (refusedWith responsesWrong s page))
-        → (Accepted s page → owes s ≡ true → P (responded s page room))
-        → (Accepted s page → owes s ≡ false → whole (afterReading .incoming .message) ≡ false
-        → P (answeredWith waiting afterReading page))
-        → (Accepted s page → owes s ≡ false → whole (afterReading .incoming .message) ≡ true
-        → P (responded (carriedOver afterReading) page room))
-        → P (eventOf s page)
-    event-cases three four five owing part all =
-        event-ways three four five (λ ok. proceeded-cases (owing ok) (part ok) (all ok))
+  pub event-cases :
+      ((length page ≡ pageSize → ⊥) → P (refusedWith pageWrong s page))
+      → (length page ≡ pageSize → areaSize < unread s page → P (refusedWith requestsWrong s page))
+      → (length page ≡ pageSize → unread s page ≤ areaSize → areaSize < unreadAcks s page → P (refusedWith responsesWrong s page))
+      → (Accepted s page → owes s ≡ true → P (responded s page (room s page)))
+      → (Accepted s page → owes s ≡ false → whole (afterReading s page .incoming .message) ≡ false
+      → P (answeredWith waiting (afterReading s page) page))
+      → (Accepted s page → owes s ≡ false → whole (afterReading s page .incoming .message) ≡ true
+      → P (responded (carriedOver (afterReading s page)) page (room s page)))
+      → P (eventOf s page)
+  event-cases three four five owing part all =
+      event-ways three four five (λ ok. proceeded-cases (owing ok) (part ok) (all ok))

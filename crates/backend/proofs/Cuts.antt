@@ -16,8 +16,9 @@ use Rattle.backend.specs.Events.{After, waiting, pageWrong, requestsWron
 use Rattle.backend.specs.Events.{owes, responded, readIn, carriedOver, eventOf}
 use Rattle.backend.specs.Streams.{messagesWithin, restWithin, messagesIn, restOf, settingsAfter, acksTo, owedOctets}
 use Rattle.backend.specs.Streams.{readBy, writtenBy, stateAfter, octetsRead, octetsWritten, Served}
+use Rattle.backend.specs.Rules.{Accepted, room, afterReading}
 use Rattle.backend.specs.declared.Interface.{Interface}
-use Rattle.backend.proofs.Branches.{Accepted, room, afterReading, event-cases}
+use Rattle.backend.proofs.Branches.{event-cases}
 use Rattle.backend.proofs.Goodness.{good-interface, good-event, good-carried}
 use Rattle.backend.proofs.Falls.{stream-parts, messages-whole, rest-part, falls-so, empty-part}
 use Rattle.backend.proofs.Arrivals.{readTo}

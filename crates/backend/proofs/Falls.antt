@@ -13,17 +13,7 @@ use Rattle.messages.specs.Requests.{ackIn, carriedMessage}
 use Rattle.messages.specs.declared.Settings.{Settings}
 use Rattle.ring.specs.Streams.{messageLength, beginsWhole, firstMessage, behindFirst}
 use Rattle.ring.proofs.Holdings.{size-append, size-front, first-append}
-use Rattle.backend.specs.Streams.{messagesWithin, restWithin, messagesIn, restOf, settingsAfter, acksTo}
-
--- lists one after the other
-unfoldable pub joined : List (List ℕ) → List ℕ
-joined [] = []
-joined (m ∷ ms) = m ++ joined ms
-
--- each is a message: as long as its header says
-pub data Messages : List (List ℕ) → Type 0 where
-  none : Messages []
-  more : (m : List ℕ) (ms : List (List ℕ)) → length m ≡ messageLength m → Messages ms → Messages (m ∷ ms)
+use Rattle.backend.specs.Streams.{messagesWithin, restWithin, messagesIn, restOf, joined, Messages, none, more, settingsAfter, acksTo}
 
 -- the laws of the definitions, step by step
 joined-none : joined [] ≡ []

@@ -16,8 +16,9 @@ use Rattle.ring.specs.Writing.{owed, GoodOutgoing}
 use Rattle.ring.proofs.Sides.{grown, none-waits, good-received, good-sent, good-incoming-at-setup, good-outgoing-at-setup}
 use Rattle.backend.specs.States.{Good, interfaceAtSetup}
 use Rattle.backend.specs.Events.{After, owes, responded, readIn, carriedOver, unread, eventOf}
+use Rattle.backend.specs.Rules.{afterReading}
 use Rattle.backend.specs.declared.Interface.{Interface}
-use Rattle.backend.proofs.Branches.{afterReading, event-cases}
+use Rattle.backend.proofs.Branches.{event-cases}
 
 -- setup
 pub good-interface : (q : ℕ) → 1 ≤ q → q ≤ maxQueues → Good (interfaceAtSetup q)

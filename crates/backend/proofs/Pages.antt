@@ -2,7 +2,7 @@
 -- Assumes nothing.
 use mathlib.Core.Path.{_≡_, refl, ap, _∙_}
 use mathlib.Core.List.{List}
-use mathlib.Core.Logic.{_⊎_, inl, inr}
+use mathlib.Core.Logic.{inl, inr}
 use mathlib.Core.Bool.{Bool, true, false, cond}
 use Prim.Native.Nat.{ℕ, _+_, _-_, _%_, _^_, _≤_, _<_}
 use native.Mathlib.Omega.{arith}
@@ -19,19 +19,12 @@ use Rattle.backend.specs.States.{Good}
 use Rattle.backend.specs.Events.{After, pageWrong, requestsWrong, responsesWrong, unread, unreadAcks, refusedWith, answeredWith}
 use Rattle.backend.specs.Events.{withOutgoing, owes, responded, readIn, carriedOver, afterRead, proceeded, eventOf}
 use Rattle.backend.specs.Streams.{writtenBy}
+use Rattle.backend.specs.Rules.{Accepted, room, afterReading, NoOwnCount, AckPlace, Alike}
 use Rattle.backend.specs.declared.Interface.{Interface}
-use Rattle.backend.proofs.Branches.{Accepted, room, afterReading, event-cases}
+use Rattle.backend.proofs.Branches.{event-cases}
 use Rattle.backend.proofs.Goodness.{good-responded, good-read, good-carried}
 
 -- ---- what changes
-
--- an octet that is none of the two own counts
-abbrev pub NoOwnCount : ℕ → Type 0
-NoOwnCount i = ((reqProdAt ≤ i) × (i < rspProdAt)) ⊎ (requestsAt ≤ i)
-
--- the place of an ack octet that the event wrote
-abbrev pub AckPlace : Interface → List ℕ → ℕ → Type 0
-AckPlace s page i = (j : ℕ) × (j < length (writtenBy s page)) × (i ≡ responsesAt + (s .outgoing .«rsp_prod» + j) % areaSize)
 
 counted-other : (page : List ℕ) (c p i : ℕ) → NoOwnCount i → getD (counted page c p) i 0 ≡ getD page i 0
 counted-other page c p i (inl (low, high)) = counted-between page c p i low high
@@ -57,6 +50,10 @@ kept-responded s t page n i same good own free =
     ∙ put-other responsesAt (sentOctets o k) page (o .«rsp_prod») i
     (λ j l e. free j (omega arith) (e ∙ ap (λ (c : ℕ). responsesAt + (c + j) % areaSize) same))
 
+written-length : (s : Interface) (page : List ℕ)
+    → length (writtenBy s page) ≡ less (eventOf s page .state .outgoing .«rsp_prod») (s .outgoing .«rsp_prod»)
+written-length s page = octets-length responsesAt (eventOf s page .page) (s .outgoing .«rsp_prod») _
+
 over-prod : (s : Interface) (page : List ℕ) → carriedOver (afterReading s page) .outgoing .«rsp_prod» ≡ s .outgoing .«rsp_prod»
 unfolding carriedOver readIn
 over-prod s page = refl
@@ -69,13 +66,10 @@ elsewhere-same s page i good own free =
     (λ ok owing. kept-responded s s page (room s page) i refl good own)
     (λ ok idle part f. counted-other page _ _ i own)
     (λ ok idle all. kept-responded s (carriedOver t) page (room s page) i (over-prod s page) (good-carried s page (unread s page) good) own)
-    (λ j l e. free (j, rw moved l, e))
+    (λ j l e. free (j, rw (written-length s page) l, e))
   where
     t : Interface
     t = afterReading s page
-
-    moved : length (writtenBy s page) ≡ less (eventOf s page .state .outgoing .«rsp_prod») (s .outgoing .«rsp_prod»)
-    moved = octets-length responsesAt (eventOf s page .page) (s .outgoing .«rsp_prod») _
 
 responded-length : (s : Interface) (page : List ℕ) (n : ℕ) → length (responded s page n .page) ≡ length page
 unfolding responded
@@ -120,12 +114,31 @@ counts-written s page good ok =
     (λ _ idle part. back (readIn s page (unread s page)) page (good-read s page (unread s page) good idle part) (ok .size))
     (λ _ idle all. back-responded (carriedOver (afterReading s page)) page (room s page) (good-carried s page (unread s page) good) (ok .size))
 
--- ---- what is not read
+responded-moves : (s t : Interface) (page : List ℕ) (n : ℕ) → t .outgoing .«rsp_prod» ≡ s .outgoing .«rsp_prod» → Good t
+    → less (responded t page n .state .outgoing .«rsp_prod») (s .outgoing .«rsp_prod») ≤ n
+unfolding responded
+responded-moves s t page n same good = omega (arith, same, good .outgoing .count, good .outgoing .short)
 
--- the same answer and state
-pub record Alike (a b : After) : Type 0 where
-  pub answer : a .answer ≡ b .answer
-  pub state : a .state ≡ b .state
+none-moves : (s : Interface) (page : List ℕ) → Good s
+    → less (afterReading s page .outgoing .«rsp_prod») (s .outgoing .«rsp_prod») ≤ room s page
+unfolding readIn
+none-moves s page good = omega (arith, good .outgoing .count)
+
+-- the octets written fit beside those that the guest has not read
+pub writes-into-room : (s : Interface) (page : List ℕ) → Good s → Accepted s page → length (writtenBy s page) + unreadAcks s page ≤ areaSize
+writes-into-room s page good ok =
+    let moved =
+    event-cases s page (λ (a : After). less (a .state .outgoing .«rsp_prod») (s .outgoing .«rsp_prod») ≤ room s page)
+    (λ wrong. absurd (wrong (ok .size)))
+    (λ e high. absurd (omega arith))
+    (λ e r high. absurd (omega arith))
+    (λ _ owing. responded-moves s s page (room s page) refl good)
+    (λ _ idle part. none-moves s page good)
+    (λ _ idle all.
+    responded-moves s (carriedOver (afterReading s page)) page (room s page) (over-prod s page) (good-carried s page (unread s page) good)) in
+    omega (arith, moved, written-length s page)
+
+-- ---- what is not read
 
 -- pages that agree in what an event looks at
 module _ (s : Interface) (p q : List ℕ) (octets : (n c : ℕ) → octetsIn requestsAt p c n ≡ octetsIn requestsAt q c n) where

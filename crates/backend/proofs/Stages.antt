@@ -26,10 +26,10 @@ use Rattle.ring.proofs.Sides.{less-advanced}
 use Rattle.ring.proofs.Holdings.{size-take, part-whole, part-all, holding-none, holding-header}
 use Rattle.backend.specs.States.{Good}
 use Rattle.backend.specs.Events.{After, owes, responded, readIn, carriedIn, carriedOver}
-use Rattle.backend.specs.Streams.{settingsAfter, acksTo, owedOctets}
+use Rattle.backend.specs.Streams.{joined, Messages, settingsAfter, acksTo, owedOctets}
 use Rattle.backend.specs.declared.Interface.{Interface}
 use Rattle.backend.proofs.Arrivals.{readTo, read-held, read-octets}
-use Rattle.backend.proofs.Falls.{joined, Messages, first-long, joined-snoc, messages-snoc, settings-snoc, acks-snoc}
+use Rattle.backend.proofs.Falls.{first-long, joined-snoc, messages-snoc, settings-snoc, acks-snoc}
 
 -- the octets written on the way from s to what an event leaves
 abbrev pub writtenTo : Interface → After → List ℕ

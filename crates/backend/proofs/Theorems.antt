@@ -4,21 +4,28 @@
 use mathlib.Core.Path.{_≡_, refl, sym, ap, _∙_}
 use mathlib.Core.List.{List, _++_}
 use mathlib.Core.Bool.{true, false, false≢true}
-use Prim.Native.Nat.{ℕ, _+_, _-_}
+use Prim.Native.Nat.{ℕ, _<_}
 use native.Mathlib.Omega.{arith}
 use lib.ListN.{length}
+use Rattle.messages.specs.Wire.{typeIn, sizeIn, success}
+use Rattle.messages.specs.Requests.{ackStatus}
+use Rattle.messages.specs.declared.Settings.{Settings}
+use Rattle.messages.proofs.Theorems.{refused-keeps-settings, queues-stay}
 use Rattle.ring.specs.Page.{requestsAt, responsesAt, advanced, less, octetsIn}
 use Rattle.ring.specs.Reading.{whole, received, receivedFrom}
 use Rattle.ring.specs.declared.Incoming.{Incoming}
 use Rattle.ring.specs.Streams.{beginsWhole, presentPart, Holding}
 use Rattle.ring.proofs.Places.{octets-length}
 use Rattle.ring.proofs.Holdings.{holding-whole, holding-received, present-whole}
+use Rattle.steering.specs.Steering.{queueIn, steeredBy}
+use Rattle.steering.proofs.Theorems.{queue-below}
 use Rattle.backend.specs.States.{Good}
 use Rattle.backend.specs.Events.{After, waiting, unread}
 use Rattle.backend.specs.Events.{owes, responded, readIn, carriedIn, carriedOver, eventOf}
 use Rattle.backend.specs.Streams.{readBy, writtenBy, Reached, fromSetUp, fromEvent}
+use Rattle.backend.specs.Rules.{Accepted, room, afterReading, BecomesWhole}
 use Rattle.backend.specs.declared.Interface.{Interface}
-use Rattle.backend.proofs.Branches.{Accepted, room, afterReading, event-cases}
+use Rattle.backend.proofs.Branches.{event-cases}
 use Rattle.backend.proofs.Goodness.{good-interface, good-event}
 use Rattle.backend.proofs.Arrivals.{read-octets}
 
@@ -26,6 +33,10 @@ use Rattle.backend.proofs.Arrivals.{read-octets}
 pub reached-good : (s : Interface) → Reached s → Good s
 reached-good s (fromSetUp q some most) = good-interface q some most
 reached-good s (fromEvent r page reached) = good-event r page (reached-good r reached)
+
+-- demand 1: every queue chosen is below the number of queues in operation
+pub every-queue-below : (s : Interface) (packet : List ℕ) → Reached s → queueIn (steeredBy (s .settings) packet) < s .settings .queues
+every-queue-below s packet reached = queue-below (s .settings) packet (reached-good s reached .settings)
 
 -- a response leaves settings and message, and the state carried over leaves the count
 responded-settings : (s : Interface) (page : List ℕ) (n : ℕ) → responded s page n .state .settings ≡ s .settings
@@ -68,13 +79,6 @@ read-all s page ok idle =
     t : Interface
     t = afterReading s page
 
--- an event at which the present message becomes whole: it is not refused, no ack is owed, and after the octets there are
--- have been read the message is whole
-pub record BecomesWhole (s : Interface) (page : List ℕ) : Type 0 where
-  pub accepted : Accepted s page
-  pub idle : owes s ≡ false
-  pub all : whole (afterReading s page .incoming .message) ≡ true
-
 module _ (s : Interface) (page : List ℕ) where
   -- with an ack owed nothing is read
   pub owed-reads-none : owes s ≡ true → eventOf s page .state .incoming ≡ s .incoming
@@ -110,6 +114,33 @@ module _ (s : Interface) (page : List ℕ) where
       ap (λ (a : After). a .state .settings) (carried-out becomes)
       ∙ responded-settings (carriedOver t) page (room s page)
       ∙ carried-settings t
+
+  -- demand 1: a request acked with a nonzero status leaves key, mapping and flags as they stood
+  pub nonzero-leaves-settings : BecomesWhole s page → (ackStatus (carriedIn (afterReading s page)) ≡ success → ⊥)
+      → eventOf s page .state .settings ≡ s .settings
+  nonzero-leaves-settings becomes nonzero =
+      let m = afterReading s page .incoming .message in
+      settings-carried becomes
+      ∙ refused-keeps-settings (afterReading s page .settings) (typeIn (m .header)) (sizeIn (m .header)) (m .payload) nonzero
+      ∙ read-settings s page (unread s page)
+
+  -- the queue count is fixed at setup
+  pub queue-count-stays : eventOf s page .state .settings .queues ≡ s .settings .queues
+  queue-count-stays =
+      event-cases s page (λ (a : After). a .state .settings .queues ≡ s .settings .queues) (λ e. refl) (λ e r. refl) (λ e r a. refl)
+      (λ ok owing. ap queues (responded-settings s page (room s page)))
+      (λ ok idle part. ap queues (read-settings s page (unread s page)))
+      (λ ok idle all.
+      let m = t .incoming .message in
+      ap queues (responded-settings (carriedOver t) page (room s page) ∙ carried-settings t)
+      ∙ queues-stay (t .settings) (typeIn (m .header)) (sizeIn (m .header)) (m .payload)
+      ∙ ap queues (read-settings s page (unread s page)))
+    where
+      t : Interface
+      t = afterReading s page
+
+      queues : Settings → ℕ
+      queues x = x .queues
 
   -- the own counts: req_cons moves by exactly the octets read, and rsp_prod by the octets written
   pub req-cons-moves : Good s → eventOf s page .state .incoming .«req_cons» ≡ advanced (s .incoming .«req_cons») (length (readBy s page))

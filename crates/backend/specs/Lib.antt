@@ -1,4 +1,5 @@
--- The definitions that the contracts and theorems of `backend` cite.
+-- The definitions that the contracts and theorems of `backend` cite, in the order of document 01.
 pub mod States
 pub mod Events
 pub mod Streams
+pub mod Rules

@@ -9,7 +9,7 @@ use Rattle.messages.specs.Settings.{maxQueues, settingsAtSetup}
 use Rattle.messages.specs.Requests.{ackIn, carriedMessage}
 use Rattle.messages.specs.declared.Settings.{Settings}
 use Rattle.ring.specs.Page.{requestsAt, responsesAt, less, octetsIn}
-use Rattle.ring.specs.Streams.{beginsWhole, firstMessage, behindFirst, Holding}
+use Rattle.ring.specs.Streams.{messageLength, beginsWhole, firstMessage, behindFirst, Holding}
 use Rattle.backend.specs.States.{interfaceAtSetup}
 use Rattle.backend.specs.Events.{eventOf}
 use Rattle.backend.specs.declared.Interface.{Interface}
@@ -29,6 +29,15 @@ messagesIn xs = messagesWithin (length xs) xs
 
 abbrev pub restOf : List ℕ → List ℕ
 restOf xs = restWithin (length xs) xs
+
+-- lists one after the other, and lists that are messages each: as long as its header says
+unfoldable pub joined : List (List ℕ) → List ℕ
+joined [] = []
+joined (m ∷ ms) = m ++ joined ms
+
+pub data Messages : List (List ℕ) → Type 0 where
+  none : Messages []
+  more : (m : List ℕ) (ms : List (List ℕ)) → length m ≡ messageLength m → Messages ms → Messages (m ∷ ms)
 
 -- the settings that carrying out messages in order leaves, and their acks in order
 unfoldable pub settingsAfter : Settings → List (List ℕ) → Settings

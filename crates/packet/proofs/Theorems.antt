@@ -1,7 +1,7 @@
 -- What readers and callers ask of the kind of a packet: each kind has the octets that its hash input takes, so the
 -- input is a part of the packet, as long as document 01 says.
 -- Assumes nothing.
-use mathlib.Core.Path.{_≡_, refl}
+use mathlib.Core.Path.{_≡_, refl, sym, ap, _∙_}
 use mathlib.Core.List.{List}
 use mathlib.Core.Bool.{Bool, true, false, cond}
 use Prim.Native.Nat.{ℕ, suc, _+_, _≤_}
@@ -12,6 +12,9 @@ use borrow.Author.Tests.{leb-true}
 use Rattle.octets.proofs.Truth.{both-true}
 use Rattle.toeplitz.specs.TwoWay.{lastType, inputSize}
 use Rattle.packet.specs.Packets.{PacketType, noType, hashType, isIpv4, isIpv6, isTcp, kindOf, inputStart, inputOf}
+use Rattle.packet.specs.Packets.{Look, none, typed, lookOf}
+use Rattle.packet.specs.declared.Found.{Found}
+use Rattle.packet.specs.declared.Found.the-variants.{NotIp, Ip}
 
 module _ (p : List ℕ) where
   ipv4-long : isIpv4 p ≡ true → 20 ≤ length p
@@ -34,18 +37,18 @@ module _ (p : List ℕ) where
 
     by-version : (b c : Bool) (s t : ℕ) → (b ≡ true → P (hashType s)) → (c ≡ true → P (hashType t)) → P noType
         → P (cond b (hashType s) (cond c (hashType t) noType))
-    by-version true c s t four six none = four refl
-    by-version false true s t four six none = six refl
-    by-version false false s t four six none = none
+    by-version true c s t four six neither = four refl
+    by-version false true s t four six neither = six refl
+    by-version false false s t four six neither = neither
 
     pub kind-cases : P noType → (20 ≤ length p → P (hashType 0)) → (24 ≤ length p → P (hashType 1))
         → (40 ≤ length p → P (hashType 2)) → (44 ≤ length p → P (hashType 3)) → P (kindOf p)
     unfolding kindOf
-    kind-cases none zeroth first second third =
+    kind-cases neither zeroth first second third =
         by-version (isIpv4 p) (isIpv6 p) _ _
         (λ e. by-tcp 0 (isTcp 9 24 p) (zeroth (ipv4-long e)) (λ q. first (tcp-long 9 24 q)))
         (λ e. by-tcp 2 (isTcp 6 44 p) (second (ipv6-long e)) (λ q. third (tcp-long 6 44 q)))
-        none
+        neither
 
   -- a packet has all octets of the input of its own type, which is one of the four
   pub input-inside : (t : ℕ) → kindOf p ≡ hashType t → (t ≤ lastType) × (inputStart t + inputSize t ≤ length p)
@@ -65,3 +68,16 @@ module _ (p : List ℕ) where
   pub input-length : (t : ℕ) → inputStart t + inputSize t ≤ length p → length (inputOf t p) ≡ inputSize t
   unfolding inputOf
   input-length t h = length-take-le (inputSize t) (drop (inputStart t) p) (rw length-drop (omega arith))
+
+-- the reading of an answer keeps answers apart, so the contract leaves no choice
+found-of : Look → Found
+found-of none = NotIp
+found-of (typed t addresses ports end) = Ip t addresses ports end
+
+found-back : (r : Found) → found-of (lookOf r) ≡ r
+unfolding found-of
+found-back NotIp = refl
+found-back (Ip t addresses ports end) = refl
+
+pub found-determined : (r s : Found) → lookOf r ≡ lookOf s → r ≡ s
+found-determined r s e = sym (found-back r) ∙ ap found-of e ∙ found-back s

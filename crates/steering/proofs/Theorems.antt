@@ -1,6 +1,6 @@
 -- What readers ask of the packet question, over the definitions alone.
 -- Assumes nothing.
-use mathlib.Core.Path.{_≡_, refl}
+use mathlib.Core.Path.{_≡_, refl, sym, ap, _∙_}
 use mathlib.Core.List.{List}
 use mathlib.Core.Bool.{Bool, true, false, cond}
 use Prim.Native.Nat.{ℕ, _%_, _≤_, _<_}
@@ -14,7 +14,10 @@ use Rattle.messages.specs.Settings.{Good, tableOf}
 use Rattle.messages.specs.declared.Settings.{Settings}
 use Rattle.messages.proofs.Powers.{power-exactly, listed-parts}
 use Rattle.packet.specs.Packets.{PacketType, noType, hashType, kindOf, inputOf}
-use Rattle.steering.specs.Steering.{Usable, isSet, plainType, typeUsed, queueOf, hashed, queueIn, chosen, steered, steeredBy}
+use Rattle.steering.specs.Steering.{Usable, isSet, plainType, typeUsed, queueOf, Choice, unhashed, hashed, queueIn, chosen, steered}
+use Rattle.steering.specs.Steering.{steeredBy, choiceOf}
+use Rattle.steering.specs.declared.Steered.{Steered}
+use Rattle.steering.specs.declared.Steered.the-variants.{NoType, Hashed}
 
 -- the key and the table of good settings can be asked
 pub good-usable : (s : Settings) → Good s → Usable (s .key) (tableOf (s .mapping))
@@ -60,3 +63,16 @@ answered-together flags key table packet t hash queue e = together (typeUsed fla
         → (k ≡ hashType t) × (hash ≡ publishedHash key (inputOf t packet)) × (queue ≡ queueOf table hash)
     together noType h = let z : _≡_ {A = ℕ} 0 1 = cc in absurd (omega arith)
     together (hashType u) h = (cc, cc, cc)
+
+-- the reading of an answer keeps answers apart, so the contract leaves no choice
+answer-of : Choice → Steered
+answer-of (unhashed queue) = NoType queue
+answer-of (hashed t hash queue) = Hashed t hash queue
+
+answer-back : (r : Steered) → answer-of (choiceOf r) ≡ r
+unfolding answer-of
+answer-back (NoType queue) = refl
+answer-back (Hashed t hash queue) = refl
+
+pub steered-determined : (r s : Steered) → choiceOf r ≡ choiceOf s → r ≡ s
+steered-determined r s e = sym (answer-back r) ∙ ap answer-of e ∙ answer-back s
