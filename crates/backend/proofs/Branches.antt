@@ -1,23 +1,19 @@
 -- The ways that an event can go, each with what is known there.
 -- Assumes nothing.
-use mathlib.Core.Path.{_≡_, refl}
+use mathlib.Core.Path.{_≡_}
 use mathlib.Core.List.{List}
-use mathlib.Core.Bool.{Bool, true, false, cond}
+use mathlib.Core.Bool.{true, false}
 use Prim.Native.Nat.{ℕ, _-_, _≤_, _<_}
 use lib.ListN.{length}
 use lib.Dec.{eqb, leb}
 use borrow.Author.Tests.{eqb-true, eqb-false, leb-true, leb-false}
+use Rattle.octets.proofs.Truth.{by-test}
 use Rattle.ring.specs.Page.{pageSize, areaSize}
 use Rattle.ring.specs.Reading.{whole}
 use Rattle.backend.specs.Events.{After, waiting, pageWrong, requestsWrong, responsesWrong, unread, unreadAcks}
 use Rattle.backend.specs.Events.{refusedWith, answeredWith, owes, responded, carriedOver, afterRead, proceeded, eventOf}
 use Rattle.backend.specs.Rules.{Accepted, room, afterReading}
 use Rattle.backend.specs.declared.Interface.{Interface}
-
--- what holds of a choice, where it holds of both sides
-by-test : {A : Type 0} (P : A → Type 0) (t : Bool) (a b : A) → (t ≡ true → P a) → (t ≡ false → P b) → P (cond t a b)
-by-test P true a b p q = p refl
-by-test P false a b p q = q refl
 
 module _ (s : Interface) (page : List ℕ) (P : After → Type 0) where
   pub proceeded-cases :

@@ -2,12 +2,13 @@
 -- Assumes nothing.
 use mathlib.Core.Path.{_≡_, refl, _∙_}
 use mathlib.Core.List.{List, [], _∷_}
-use mathlib.Core.Bool.{Bool, true, false, cond}
+use mathlib.Core.Bool.{false}
 use Prim.Native.Nat.{ℕ, suc, _+_, _-_, _^_, _≤_, _<_}
 use native.Mathlib.Omega.{arith}
 use lib.ListN.{length, length-set}
 use lib.Dec.{ltb}
 use borrow.Author.Tests.{lt-leb}
+use Rattle.octets.proofs.Truth.{by-test}
 use Rattle.messages.specs.Wire.{headerSize, sizeIn}
 use Rattle.ring.specs.Page.{requestsAt, advanced, less, octetsIn}
 use Rattle.ring.specs.Reading.{isWhole, whole, withOctet, received, receivedFrom, incomingAtSetup, GoodIncoming}
@@ -24,16 +25,12 @@ pub record Grown (m r : Message) (n : ℕ) : Type 0 where
   pub least : m .taken ≤ r .taken
   pub most : r .taken ≤ m .taken + n
 
-by-test : {A : Type 0} (P : A → Type 0) (t : Bool) (a b : A) → P a → P b → P (cond t a b)
-by-test P true a b p q = p
-by-test P false a b p q = q
-
 grown-next : (m : Message) (x : ℕ) → Grown m (withOctet m x) 1
 unfolding withOctet
 grown-next m x =
     by-test (λ (r : Message). Grown m r 1) (ltb (m .taken) headerSize) _ _
-    (record { header = length-set (m .header) (m .taken) x; payload = refl; least = omega arith; most = omega arith })
-    (record { header = refl; payload = length-set (m .payload) (m .taken - headerSize) x; least = omega arith; most = omega arith })
+    (λ e. record { header = length-set (m .header) (m .taken) x; payload = refl; least = omega arith; most = omega arith })
+    (λ e. record { header = refl; payload = length-set (m .payload) (m .taken - headerSize) x; least = omega arith; most = omega arith })
 
 grown-none : (m : Message) (n : ℕ) → Grown m m n
 grown-none m n = record { header = refl; payload = refl; least = omega arith; most = omega arith }
@@ -46,8 +43,8 @@ pub grown : (xs : List ℕ) (m : Message) → Grown m (received xs m) (length xs
 unfolding received
 grown [] m = grown-none m 0
 grown (x ∷ xs) m =
-    by-test (λ (r : Message). Grown m r (suc (length xs))) (whole m) _ _ (grown-none m (suc (length xs)))
-    (grown-more m (withOctet m x) (received xs (withOctet m x)) (length xs) (grown-next m x) (grown xs (withOctet m x)))
+    by-test (λ (r : Message). Grown m r (suc (length xs))) (whole m) _ _ (λ e. grown-none m (suc (length xs)))
+    (λ e. grown-more m (withOctet m x) (received xs (withOctet m x)) (length xs) (grown-next m x) (grown xs (withOctet m x)))
 
 -- the difference of a count and itself advanced is what it was advanced by
 pub less-advanced : (c n : ℕ) → c < 2 ^ 32 → n < 2 ^ 32 → less (advanced c n) c ≡ n
