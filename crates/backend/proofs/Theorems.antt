@@ -17,9 +17,8 @@ use Rattle.ring.specs.declared.Incoming.{Incoming}
 use Rattle.ring.specs.Streams.{beginsWhole, presentPart, Holding}
 use Rattle.ring.proofs.Places.{octets-length}
 use Rattle.ring.proofs.Holdings.{holding-whole, holding-received, present-whole}
-use Rattle.steering.specs.Steering.{queueIn, steeredBy}
-use Rattle.steering.proofs.Theorems.{queue-below}
-use Rattle.backend.specs.States.{Good}
+use Rattle.steering.specs.Steering.{queueIn}
+use Rattle.backend.specs.States.{Good, steeredBy}
 use Rattle.backend.specs.Events.{After, waiting, unread}
 use Rattle.backend.specs.Events.{owes, responded, readIn, carriedIn, carriedOver, eventOf}
 use Rattle.backend.specs.Streams.{readBy, writtenBy, Reached, fromSetUp, fromEvent}
@@ -27,6 +26,7 @@ use Rattle.backend.specs.Rules.{Accepted, room, afterReading, BecomesWho
 use Rattle.backend.specs.declared.Interface.{Interface}
 use Rattle.backend.proofs.Branches.{event-cases}
 use Rattle.backend.proofs.Goodness.{good-interface, good-event}
+use Rattle.backend.proofs.Queues.{good-queue}
 use Rattle.backend.proofs.Arrivals.{read-octets}
 
 -- every state that calls reach from setup is good
@@ -36,7 +36,7 @@ reached-good s (fromEvent r page reached) = good-event r page (reached-good r re
 
 -- demand 1: every queue chosen is below the number of queues in operation
 pub every-queue-below : (s : Interface) (packet : List ℕ) → Reached s → queueIn (steeredBy (s .settings) packet) < s .settings .queues
-every-queue-below s packet reached = queue-below (s .settings) packet (reached-good s reached .settings)
+every-queue-below s packet reached = good-queue (s .settings) packet (reached-good s reached .settings)
 
 -- a response leaves settings and message, and the state carried over leaves the count
 responded-settings : (s : Interface) (page : List ℕ) (n : ℕ) → responded s page n .state .settings ≡ s .settings

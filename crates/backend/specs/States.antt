@@ -1,11 +1,14 @@
--- The state of an interface: what setup answers, and what holds of every state from then on.
+-- The state of an interface: what setup answers, what holds of every state from then on, and the packet question.
 -- Assumes nothing.
 use mathlib.Core.Path.{_≡_}
+use mathlib.Core.List.{List}
 use mathlib.Core.Bool.{cond, _&&_}
 use Prim.Native.Nat.{ℕ, _<_}
 use lib.Dec.{leb}
 use Rattle.octets.specs.Outcome.{Outcome, value, refused}
-use Rattle.messages.specs.Settings.{maxQueues, settingsAtSetup, Good as GoodSettings}
+use Rattle.messages.specs.Settings.{maxQueues, tableOf, settingsAtSetup, Good as GoodSettings}
+use Rattle.messages.specs.declared.Settings.{Settings}
+use Rattle.steering.specs.Steering.{Choice, steered}
 use Rattle.ring.specs.Reading.{incomingAtSetup, GoodIncoming}
 use Rattle.ring.specs.Writing.{outgoingAtSetup, owed, GoodOutgoing}
 use Rattle.backend.specs.declared.Interface.{Interface}
@@ -35,3 +38,7 @@ pub record Good (s : Interface) : Type 0 where
   pub outgoing : GoodOutgoing (s .outgoing)
   -- while ack octets are owed, nothing of a following request has been read
   pub in-turn : 0 < owed (s .outgoing) → s .incoming .message .taken ≡ 0
+
+-- the choice for a packet under the settings of an interface
+abbrev pub steeredBy : Settings → List ℕ → Choice
+steeredBy s packet = steered (s .flags) (s .key) (tableOf (s .mapping)) packet

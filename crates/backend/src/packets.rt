@@ -1,7 +1,7 @@
 // The packet question of an interface.
 ghost use mathlib.Core.Path.{_≡_};
-ghost use Rattle.steering.specs.Steering.{steeredBy, choiceOf};
-ghost use Rattle.backend.specs.States.{Good};
+ghost use Rattle.steering.specs.Steering.{choiceOf};
+ghost use Rattle.backend.specs.States.{Good, steeredBy};
 use crate::Interface;
 use steering::Steered;
 

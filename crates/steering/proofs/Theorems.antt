@@ -6,40 +6,25 @@ use mathlib.Core.Bool.{Bool, true, false, cond}
 use Prim.Native.Nat.{ℕ, _%_, _≤_, _<_}
 use native.Mathlib.Nat.{mod-lt}
 use native.Mathlib.Omega.{arith}
-use lib.ListN.{length}
-use lib.Seq.{length-take-le}
-use lib.Pow.{pow-pos}
+use lib.ListN.{length, getD}
 use Rattle.toeplitz.specs.Hash.{publishedHash}
-use Rattle.messages.specs.Settings.{Good, tableOf}
-use Rattle.messages.specs.declared.Settings.{Settings}
-use Rattle.messages.proofs.Powers.{power-exactly, listed-parts}
 use Rattle.packet.specs.Packets.{PacketType, noType, hashType, kindOf, inputOf}
-use Rattle.steering.specs.Steering.{Usable, isSet, plainType, typeUsed, queueOf, Choice, unhashed, hashed, queueIn, chosen, steered}
-use Rattle.steering.specs.Steering.{steeredBy, choiceOf}
+use Rattle.steering.specs.Steering.{isSet, plainType, typeUsed, queueOf, Choice, unhashed, hashed, queueIn, chosen, steered}
+use Rattle.steering.specs.Steering.{choiceOf}
 use Rattle.steering.specs.declared.Steered.{Steered}
 use Rattle.steering.specs.declared.Steered.the-variants.{NoType, Hashed}
 
--- the key and the table of good settings can be asked
-pub good-usable : (s : Settings) → Good s → Usable (s .key) (tableOf (s .mapping))
-good-usable s good =
-    let m = good .mapping in
-    let x = listed-parts (s .mapping .count) .0 (m .listed) in
-    let p = power-exactly (s .mapping .count) .0 (x .0) in
-    let some : 1 ≤ s .mapping .count = rw (p .1) (pow-pos (p .0)) in
-    let long : s .mapping .count ≤ length (s .mapping .entries) = rw (m .size) (x .1) in
-    record { key-whole = good .key; some-entry = rw (length-take-le (s .mapping .count) (s .mapping .entries) long) some }
-
--- demand 1: every queue chosen is below the number of queues in operation
-pub queue-below : (s : Settings) (packet : List ℕ) → Good s → queueIn (steeredBy s packet) < s .queues
+-- a queue chosen is below q, where each entry of the table is
+pub queue-below : (flags : ℕ) (key table packet : List ℕ) (q : ℕ) → 1 ≤ q → 1 ≤ length table → ((i : ℕ) → i < length table → getD table i 0 < q)
+    → queueIn (steered flags key table packet) < q
 unfolding chosen queueOf
-queue-below s packet good = below (typeUsed (s .flags) (kindOf packet))
+queue-below flags key table packet q some entry each = below (typeUsed flags (kindOf packet))
   where
-    below : (k : PacketType) → queueIn (chosen (s .key) (tableOf (s .mapping)) packet k) < s .queues
-    below noType = good .some-queue
+    below : (k : PacketType) → queueIn (chosen key table packet k) < q
+    below noType = some
     below (hashType t) =
-        let table = tableOf (s .mapping) in
-        let hash = publishedHash (s .key) (inputOf t packet) in
-        good .mapping .below (hash % length table) (mod-lt hash (good-usable s good .some-entry))
+        let hash = publishedHash key (inputOf t packet) in
+        each (hash % length table) (mod-lt hash entry)
 
 -- a type is used only where its flag is set
 pub used-is-set : (flags t : ℕ) (k : PacketType) → typeUsed flags k ≡ hashType t → isSet flags t ≡ true

@@ -1,4 +1,4 @@
--- The type, hash and queue of a packet under the settings of an interface.
+-- The type, hash and queue of a packet under the flags, key and mapping table of an interface.
 -- Assumes nothing.
 use mathlib.Core.Path.{_≡_}
 use mathlib.Core.List.{List}
@@ -7,8 +7,6 @@ use Prim.Native.Nat.{ℕ, _-_, _/_, _%_, _^_, _≤_}
 use lib.ListN.{length, getD}
 use lib.Dec.{eqb}
 use Rattle.toeplitz.specs.Hash.{keyLength, publishedHash}
-use Rattle.messages.specs.Settings.{tableOf}
-use Rattle.messages.specs.declared.Settings.{Settings}
 use Rattle.packet.specs.Packets.{PacketType, noType, hashType, kindOf, inputOf}
 use Rattle.steering.specs.declared.Steered.{Steered}
 use Rattle.steering.specs.declared.Steered.the-variants.{NoType, Hashed}
@@ -52,10 +50,6 @@ chosen key table packet (hashType t) = hashedTo t (publishedHash key (inputOf t 
 -- the choice for a packet under flags, key and table
 abbrev pub steered : ℕ → List ℕ → List ℕ → List ℕ → Choice
 steered flags key table packet = chosen key table packet (typeUsed flags (kindOf packet))
-
--- and under the settings of an interface
-abbrev pub steeredBy : Settings → List ℕ → Choice
-steeredBy s packet = steered (s .flags) (s .key) (tableOf (s .mapping)) packet
 
 -- what holds of key and table of every interface: the key is 40 octets, and the table has an entry
 pub record Usable (key table : List ℕ) : Type 0 where

@@ -9,7 +9,7 @@ use borrow.Author.Needs.{needs}
 use Rattle.messages.specs.Settings.{maxEntries}
 use Rattle.messages.proofs.Powers.{listed-parts}
 use Rattle.steering.specs.Steering.{steered}
-use Rattle.steering.proofs.Theorems.{good-usable}
+use Rattle.backend.proofs.Queues.{good-usable}
 use Rattle.backend.proofs.packets.steer.Statement.{statement}
 use Rattle.backend.proofs.packets.steer.Tie as tie
 
