@@ -14,6 +14,7 @@ use Rattle.octets.proofs.Truth.{both-true}
 use Rattle.octets.proofs.Outcomes.{value-not-refused, test-value}
 use Rattle.messages.specs.Settings.{maxQueues}
 use Rattle.ring.specs.Page.{pageSize, areaSize}
+use Rattle.ring.specs.Reading.{whole}
 use Rattle.backend.specs.States.{queuesWrong, interfaceAtSetup, setUpOutcome}
 use Rattle.backend.specs.Events.{After, waiting, ackWritten, ackOwed, pageWrong, requestsWrong, responsesWrong, unread, unreadAcks}
 use Rattle.backend.specs.Events.{owes, responded, readIn, carriedOver, eventOf, answerNumber}
@@ -196,3 +197,19 @@ module _ (s : Interface) (page : List ℕ) where
       owing-after t ok =
           let x = responded-owed t page (room s page) in
           (λ e. (ok, x .0 e), λ y. x .1 (y .1))
+
+  -- 0 exactly where no ack was owed and the message is not whole once the octets there are have been read
+  pub waits-exactly : (eventOf s page .answer ≡ waiting)
+      ↔ (Accepted s page × (owes s ≡ false) × (whole (afterReading s page .incoming .message) ≡ false))
+  waits-exactly =
+      event-cases s page
+      (λ (a : After). (a .answer ≡ waiting) ↔ (Accepted s page × (owes s ≡ false) × (whole (afterReading s page .incoming .message) ≡ false)))
+      (λ wrong. (λ e. absurd (omega arith), λ x. absurd (wrong (x .0 .size))))
+      (λ e high. (λ q. absurd (omega arith), λ x. absurd (omega arith)))
+      (λ e r high. (λ q. absurd (omega arith), λ x. absurd (omega arith)))
+      (λ ok owing. (λ e. absurd (acked s e), λ x. absurd (false≢true (sym (x .1) ∙ owing))))
+      (λ ok idle part. (λ e. (ok, idle, part), λ x. refl))
+      (λ ok idle all. (λ e. absurd (acked (carriedOver (afterReading s page)) e), λ x. absurd (false≢true (sym (x .2) ∙ all))))
+    where
+      acked : (t : Interface) → responded t page (room s page) .answer ≡ waiting → ⊥
+      acked t e = ⊎-elim (λ one. omega arith) (λ two. omega arith) (responded-answer t page (room s page))
