@@ -13,8 +13,8 @@ use Rattle.ring.specs.Page.{countIn, less, counted, octetsIn, put}
 use Rattle.ring.specs.Reading.{whole, receivedFrom}
 use Rattle.ring.specs.Writing.{fitting, sentOctets, sent}
 use Rattle.ring.proofs.Places.{octets-length, put-length}
-use Rattle.ring.proofs.Untouched.{counted-between, counted-behind, counted-length, counted-octets, counted-cons, counted-prod}
-use Rattle.ring.proofs.Untouched.{counted-others, put-other}
+use Rattle.ring.proofs.Untouched.{counted-between, counted-behind, counted-length, counted-cons, counted-prod}
+use Rattle.ring.proofs.Untouched.{counted-others, put-other, octets-agree}
 use Rattle.backend.specs.States.{Good}
 use Rattle.backend.specs.Events.{After, pageWrong, requestsWrong, responsesWrong, unread, unreadAcks, refusedWith, answeredWith}
 use Rattle.backend.specs.Events.{withOutgoing, owes, responded, readIn, carriedOver, afterRead, proceeded, eventOf}
@@ -174,10 +174,16 @@ module _ (s : Interface) (p q : List ℕ) (octets : (n c : ℕ) → octetsIn req
       (same requestsWrong))
       (same pageWrong))
 
+-- of a page only its length, req_prod, rsp_cons and the request area are read
+pub only-these-read : (s : Interface) (p q : List ℕ) → length p ≡ length q → countIn p reqProdAt ≡ countIn q reqProdAt
+    → countIn p rspConsAt ≡ countIn q rspConsAt → ((o : ℕ) → o < areaSize → getD p (requestsAt + o) 0 ≡ getD q (requestsAt + o) 0)
+    → Alike (eventOf s p) (eventOf s q)
+only-these-read s p q size prod cons area = event-alike s p q (octets-agree requestsAt p q area) size prod cons
+
 -- what the page says of req_cons and rsp_prod makes no difference to answer or state
 pub own-counts-not-read : (s : Interface) (page : List ℕ) (c p : ℕ) → Alike (eventOf s (counted page c p)) (eventOf s page)
 own-counts-not-read s page c p =
-    event-alike s (counted page c p) page (λ n d. counted-octets requestsAt page c p n d (omega arith))
-    (counted-length page c p)
+    only-these-read s (counted page c p) page (counted-length page c p)
     (counted-others page c p reqProdAt (omega arith) (omega arith))
     (counted-others page c p rspConsAt (omega arith) (omega arith))
+    (λ o l. counted-behind page c p (requestsAt + o) (omega arith))
