@@ -11,7 +11,8 @@ use borrow.Author.Tests.{le-leb, lt-leb, leb-true}
 use Rattle.messages.specs.Wire.{headerSize, sizeIn}
 use Rattle.messages.specs.Requests.{ackIn, carriedMessage}
 use Rattle.messages.specs.declared.Settings.{Settings}
-use Rattle.ring.specs.Streams.{messageLength, beginsWhole, firstMessage, behindFirst}
+use Rattle.ring.specs.Reading.{messageLength}
+use Rattle.ring.specs.Streams.{beginsWhole, firstMessage, behindFirst}
 use Rattle.ring.proofs.Holdings.{size-append, size-front, first-append}
 use Rattle.backend.specs.Streams.{messagesWithin, restWithin, messagesIn, restOf, joined, Messages, none, more, settingsAfter, acksTo}
 

@@ -18,7 +18,8 @@ use Rattle.messages.specs.declared.Carried.{Carried}
 use Rattle.messages.proofs.Theorems.{header-bounds-payload, header-alone}
 use Rattle.ring.specs.Page.{pageSize, areaSize, requestsAt, responsesAt, less, advanced, octetsIn, put}
 use Rattle.ring.specs.Writing.{owed, fitting, sentOctets, GoodOutgoing}
-use Rattle.ring.specs.Streams.{messageLength, beginsWhole, presentPart, Holding}
+use Rattle.ring.specs.Reading.{messageLength}
+use Rattle.ring.specs.Streams.{beginsWhole, presentPart, Holding}
 use Rattle.ring.specs.declared.Message.{Message}
 use Rattle.ring.specs.declared.Outgoing.{Outgoing}
 use Rattle.ring.proofs.Untouched.{counted-octets, put-stands}

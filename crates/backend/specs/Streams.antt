@@ -9,7 +9,8 @@ use Rattle.messages.specs.Settings.{maxQueues, settingsAtSetup}
 use Rattle.messages.specs.Requests.{ackIn, carriedMessage}
 use Rattle.messages.specs.declared.Settings.{Settings}
 use Rattle.ring.specs.Page.{requestsAt, responsesAt, less, octetsIn}
-use Rattle.ring.specs.Streams.{messageLength, beginsWhole, firstMessage, behindFirst, Holding}
+use Rattle.ring.specs.Reading.{messageLength}
+use Rattle.ring.specs.Streams.{beginsWhole, firstMessage, behindFirst, Holding}
 use Rattle.backend.specs.States.{interfaceAtSetup}
 use Rattle.backend.specs.Events.{eventOf}
 use Rattle.backend.specs.declared.Interface.{Interface}

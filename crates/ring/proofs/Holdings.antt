@@ -12,8 +12,8 @@ use lib.Dec.{leb, ltb}
 use borrow.Author.Tests.{le-leb, lt-leb, leb-true, leb-false, lt-ltb, le-ltb, ltb-true, ltb-false}
 use Rattle.octets.proofs.Numbers.{number-same}
 use Rattle.messages.specs.Wire.{headerSize, maxPayload, sizeIn}
-use Rattle.ring.specs.Reading.{whole, withOctet, received}
-use Rattle.ring.specs.Streams.{messageLength, beginsWhole, firstMessage, presentPart, Holding}
+use Rattle.ring.specs.Reading.{messageLength, whole, withOctet, received}
+use Rattle.ring.specs.Streams.{beginsWhole, firstMessage, presentPart, Holding}
 use Rattle.ring.specs.declared.Message.{Message}
 
 -- the size in a header does not depend on what stands behind the header
@@ -155,11 +155,11 @@ holding-whole m xs held = by (ltb (length xs) headerSize) refl
     by : (b : Bool) → ltb (length xs) headerSize ≡ b → whole m ≡ beginsWhole xs
     by true e =
         let h : length xs < headerSize = ltb-true (length xs) headerSize e in
-        lt-leb (headerSize + sizeIn (m .header)) (m .taken) (omega arith)
+        lt-leb (messageLength (m .header)) (m .taken) (omega arith)
         ∙ sym (lt-leb (messageLength xs) (length xs) (omega arith))
     by false e =
         let h : headerSize ≤ length xs = ltb-false (length xs) headerSize e in
-        ap₂ (λ (l : List ℕ) (n : ℕ). leb (headerSize + sizeIn l) n) (holding-header m xs held h) (held .count)
+        ap₂ (λ (l : List ℕ) (n : ℕ). leb (messageLength l) n) (holding-header m xs held h) (held .count)
         ∙ ap (λ (n : ℕ). leb (headerSize + n) (length xs)) (size-take xs)
 
 -- more octets behind a whole first message make no difference to it

@@ -9,9 +9,9 @@ use lib.ListN.{length, length-set}
 use lib.Dec.{ltb}
 use borrow.Author.Tests.{lt-leb}
 use Rattle.octets.proofs.Truth.{by-test}
-use Rattle.messages.specs.Wire.{headerSize, sizeIn}
+use Rattle.messages.specs.Wire.{headerSize}
 use Rattle.ring.specs.Page.{requestsAt, advanced, less, octetsIn}
-use Rattle.ring.specs.Reading.{isWhole, whole, withOctet, received, receivedFrom, incomingAtSetup, GoodIncoming}
+use Rattle.ring.specs.Reading.{messageLength, isWhole, whole, withOctet, received, receivedFrom, incomingAtSetup, GoodIncoming}
 use Rattle.ring.specs.Writing.{fitting, sent, outgoingAtSetup, GoodOutgoing}
 use Rattle.ring.specs.declared.Message.{Message}
 use Rattle.ring.specs.declared.Incoming.{Incoming}
@@ -60,7 +60,7 @@ read-most page i n =
 
 -- a message of which nothing is read is not whole
 pub none-waits : (header : List ℕ) → isWhole header 0 ≡ false
-none-waits header = lt-leb (headerSize + sizeIn header) 0 (omega arith)
+none-waits header = lt-leb (messageLength header) 0 (omega arith)
 
 pub good-received : (page : List ℕ) (i : Incoming) (n : ℕ) → GoodIncoming i → whole (receivedFrom page i n .message) ≡ false
     → GoodIncoming (receivedFrom page i n)

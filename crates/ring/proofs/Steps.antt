@@ -14,9 +14,9 @@ use borrow.Author.Tests.{lt-ltb, le-ltb, lt-leb, ltb-true, ltb-false, leb-true, 
 use borrow.Rule.Slice.PartMut.{putMid}
 use Rattle.octets.specs.Numbers.{AreOctets}
 use Rattle.octets.proofs.Numbers.{number-four}
-use Rattle.messages.specs.Wire.{headerSize, sizeIn}
+use Rattle.messages.specs.Wire.{headerSize}
 use Rattle.ring.specs.Page.{requestsAt, advanced, octetsIn}
-use Rattle.ring.specs.Reading.{isWhole, whole, withOctet, received, receivedFrom}
+use Rattle.ring.specs.Reading.{messageLength, isWhole, whole, withOctet, received, receivedFrom}
 use Rattle.ring.specs.Inner.{headerMoved, payloadMoved}
 use Rattle.ring.specs.declared.Message.{Message}
 use Rattle.ring.specs.declared.Incoming.{Incoming}
@@ -71,20 +71,20 @@ received-header [] m h = rw (add-zero (m .taken)) (received-none m)
 received-header (x ∷ xs) m h =
     let next = parts (set (m .header) (m .taken) x) (m .payload) (suc (m .taken)) in
     let count : suc (m .taken) + length xs ≡ m .taken + suc (length xs) = omega arith in
-    received-next x xs m (lt-leb (headerSize + sizeIn (m .header)) (m .taken) (omega arith))
+    received-next x xs m (lt-leb (messageLength (m .header)) (m .taken) (omega arith))
     ∙ ap (received xs) (with-header m x (omega arith))
     ∙ received-header xs next (omega arith)
     ∙ ap (parts (sets (m .header) (m .taken) (x ∷ xs)) (m .payload)) count
 
 -- octets that all go into the payload
-pub received-payload : (xs : List ℕ) (m : Message) → headerSize ≤ m .taken → m .taken + length xs ≤ headerSize + sizeIn (m .header)
+pub received-payload : (xs : List ℕ) (m : Message) → headerSize ≤ m .taken → m .taken + length xs ≤ messageLength (m .header)
     → received xs m ≡ parts (m .header) (sets (m .payload) (m .taken - headerSize) xs) (m .taken + length xs)
 received-payload [] m h l = rw (add-zero (m .taken)) (received-none m)
 received-payload (x ∷ xs) m h l =
     let next = parts (m .header) (set (m .payload) (m .taken - headerSize) x) (suc (m .taken)) in
     let count : suc (m .taken) + length xs ≡ m .taken + suc (length xs) = omega arith in
     let place : suc (m .taken) - headerSize ≡ suc (m .taken - headerSize) = omega arith in
-    received-next x xs m (lt-leb (headerSize + sizeIn (m .header)) (m .taken) (omega arith))
+    received-next x xs m (lt-leb (messageLength (m .header)) (m .taken) (omega arith))
     ∙ ap (received xs) (with-payload m x h)
     ∙ received-payload xs next (omega arith) (omega arith)
     ∙ ap₂ (λ (i k : ℕ). parts (m .header) (sets (set (m .payload) (m .taken - headerSize) x) i xs) k) place count
@@ -107,7 +107,7 @@ module _ (page : List ℕ) (c : ℕ) where
 -- of a message that is not whole, no more octets are there than its header can say
 pub taken-small : (m : Message) → AreOctets (m .header) → whole m ≡ false → m .taken < headerSize + 2 ^ 32
 taken-small m o waiting =
-    let more = leb-false (headerSize + sizeIn (m .header)) (m .taken) waiting in
+    let more = leb-false (messageLength (m .header)) (m .taken) waiting in
     omega (arith, number-four (m .header) 4, o 4, o 5, o 6, o 7)
 
 -- of n octets, `some` go into the header of m, which is then h, and `more` into the payload
@@ -117,7 +117,7 @@ module _ (n : ℕ) (m : Message) (h : List ℕ) (some more : ℕ) (es : some ≡
     none-more : ltb (m .taken + some) headerSize ≡ true → more ≡ 0
     none-more t = em ∙ rw t refl
 
-    some-more : ltb (m .taken + some) headerSize ≡ false → more ≡ min (headerSize + sizeIn h - (m .taken + some)) (n - some)
+    some-more : ltb (m .taken + some) headerSize ≡ false → more ≡ min (messageLength h - (m .taken + some)) (n - some)
     some-more t = em ∙ rw t refl
 
     pub moved-most : some + more ≤ n
@@ -142,10 +142,10 @@ module _ (page : List ℕ) (c n : ℕ) (m : Message) (h : List ℕ) (some : ℕ)
     header-same z = eh ∙ none-set page c (m .header) (m .taken) some z
 
     -- no octets are there behind those that the header says
-    pub taken-most : whole m ≡ false → m .taken + some ≤ headerSize + sizeIn h
+    pub taken-most : whole m ≡ false → m .taken + some ≤ messageLength h
     taken-most waiting = by (leb (m .taken) headerSize) refl
       where
-        by : (b : Bool) → leb (m .taken) headerSize ≡ b → m .taken + some ≤ headerSize + sizeIn h
+        by : (b : Bool) → leb (m .taken) headerSize ≡ b → m .taken + some ≤ messageLength h
         by true t = omega (arith, leb-true)
         by false t =
             let z : some ≡ 0 = omega (arith, leb-false) in

@@ -2,9 +2,10 @@
 -- Assumes nothing.
 use mathlib.Core.List.{List}
 use mathlib.Core.Bool.{cond}
-use Prim.Native.Nat.{ℕ, _+_, _-_, min}
+use Prim.Native.Nat.{ℕ, _-_, min}
 use lib.Dec.{ltb}
-use Rattle.messages.specs.Wire.{headerSize, sizeIn}
+use Rattle.messages.specs.Wire.{headerSize}
+use Rattle.ring.specs.Reading.{messageLength}
 
 -- of n octets, those that go into a header of which `taken` are there
 abbrev pub headerMoved : ℕ → ℕ → ℕ
@@ -12,4 +13,4 @@ headerMoved taken n = min (headerSize - taken) n
 
 -- of n octets, those that go into the payload, once the header is whole
 abbrev pub payloadMoved : List ℕ → ℕ → ℕ → ℕ
-payloadMoved header taken n = cond (ltb taken headerSize) 0 (min (headerSize + sizeIn header - taken) n)
+payloadMoved header taken n = cond (ltb taken headerSize) 0 (min (messageLength header - taken) n)

@@ -11,9 +11,12 @@ use Rattle.ring.specs.Page.{requestsAt, advanced, octetsIn}
 use Rattle.ring.specs.declared.Message.{Message}
 use Rattle.ring.specs.declared.Incoming.{Incoming}
 
--- whether all octets of a message are there that its header says. A part of a header cannot meet this
+-- the length of the message with this header, and whether all its octets are there. A part of a header cannot meet this
+abbrev pub messageLength : List ℕ → ℕ
+messageLength header = headerSize + sizeIn header
+
 abbrev pub isWhole : List ℕ → ℕ → Bool
-isWhole header taken = leb (headerSize + sizeIn header) taken
+isWhole header taken = leb (messageLength header) taken
 
 abbrev pub whole : Message → Bool
 whole m = isWhole (m .header) (m .taken)

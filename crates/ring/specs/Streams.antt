@@ -3,19 +3,15 @@
 use mathlib.Core.Path.{_≡_}
 use mathlib.Core.List.{List}
 use mathlib.Core.Bool.{Bool, cond}
-use Prim.Native.Nat.{ℕ, _+_, _-_}
+use Prim.Native.Nat.{ℕ, _-_}
 use lib.ListN.{length, take, drop}
-use lib.Dec.{leb}
-use Rattle.messages.specs.Wire.{headerSize, maxPayload, sizeIn}
+use Rattle.messages.specs.Wire.{headerSize, maxPayload}
+use Rattle.ring.specs.Reading.{messageLength, isWhole}
 use Rattle.ring.specs.declared.Message.{Message}
 
--- the length of the message that a stream begins with, by its header
-abbrev pub messageLength : List ℕ → ℕ
-messageLength xs = headerSize + sizeIn xs
-
--- whether a stream begins with a whole message (less than a header cannot), that message, and what is behind it
+-- whether a stream begins with a whole message, that message, and what is behind it
 abbrev pub beginsWhole : List ℕ → Bool
-beginsWhole xs = leb (messageLength xs) (length xs)
+beginsWhole xs = isWhole xs (length xs)
 
 abbrev pub firstMessage : List ℕ → List ℕ
 firstMessage xs = take (messageLength xs) xs

@@ -2,12 +2,12 @@
 // it is whole or no octet is left. Octets of a following message stay.
 ghost use mathlib.Core.Path.{_≡_};
 ghost use mathlib.Core.Bool.{false};
-ghost use Prim.Native.Nat.{_+_, _-_, _≤_, _<_};
+ghost use Prim.Native.Nat.{_-_, _≤_};
 ghost use lib.ListN.{length};
 ghost use lib.Seq.{sets};
-ghost use Rattle.messages.specs.Wire.{headerSize, maxPayload, sizeIn};
+ghost use Rattle.messages.specs.Wire.{headerSize, maxPayload};
 ghost use Rattle.ring.specs.Page.{pageSize, areaSize, requestsAt, octetsIn};
-ghost use Rattle.ring.specs.Reading.{isWhole, receivedFrom};
+ghost use Rattle.ring.specs.Reading.{messageLength, isWhole, receivedFrom};
 ghost use Rattle.ring.specs.Inner.{headerMoved, payloadMoved};
 use crate::Incoming;
 use crate::Message;
@@ -33,7 +33,7 @@ pub fn is_whole(header: &[u8; HEADER], taken: u64) -> bool
 // The length of the message with this header.
 fn message_length(header: &[u8]) -> u64
     requires { ⌜ length (now header) ≡ headerSize ⌝ }
-    ensures { λ r. ⌜ r ≡ headerSize + sizeIn (now (header .entry)) ⌝ }
+    ensures { λ r. ⌜ r ≡ messageLength (now (header .entry)) ⌝ }
 {
     HEADER_OCTETS + octets::read_u32(header, SIZE_AT) as u64
 }
@@ -99,7 +99,7 @@ fn read_payload(
     n: u64,
 ) -> u64
     requires { ⌜ (length (now page) ≡ pageSize) × (length (now header) ≡ headerSize) × (length (now payload) ≡ maxPayload) ⌝ }
-    requires { ⌜ (n ≤ areaSize) × (taken ≤ headerSize + sizeIn (now header)) ⌝ }
+    requires { ⌜ (n ≤ areaSize) × (taken ≤ messageLength (now header)) ⌝ }
     ensures { λ r. ⌜ (r ≡ payloadMoved (now (header .entry)) taken n) × (now (payload .exit) ≡ sets (now (payload .entry)) (taken - headerSize) (octetsIn requestsAt (now (page .entry)) count r)) ⌝ }
 {
     if taken < HEADER_OCTETS {
