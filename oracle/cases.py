@@ -10,6 +10,11 @@ def case_file(cases):
     return data
 
 
+def program_files(program, cases, lines):
+    """The two stored files of a test program, by their paths below crates/: its cases, and the lines that it must print."""
+    return {f"{program}/data/cases": case_file(cases), f"{program}/stdout": "".join(lines).encode()}
+
+
 def digest(data):
     """A number below 2^32 that depends on every octet and its place."""
     total = 0

@@ -6,7 +6,7 @@ and one buffer of 4,160 octets, at its start all zero, whose first octets are th
 
 import packets
 import ring
-from cases import case_file, digest
+from cases import digest, program_files
 from messages import GET_FLAGS, SET_FLAGS, SET_KEY, SET_MAPPING, message, number, octets
 from packet_cases import one_of_each
 from seeds import seeded, seeded_below
@@ -719,7 +719,4 @@ def files():
     """Each stored file, by its path below crates/, with the octets that it must have."""
     agree_with_papers()
     cases = list(all_cases())
-    return {
-        "event_vectors/data/cases": case_file(cases),
-        "event_vectors/stdout": "".join(expected(cases)).encode(),
-    }
+    return program_files("event_vectors", cases, expected(cases))

@@ -5,7 +5,7 @@ behind it act on that one.
 """
 
 import messages
-from cases import case_file, digest
+from cases import digest, program_files
 from messages import GET_FLAGS, SET_FLAGS, SET_KEY, SET_MAPPING, octets
 from seeds import seeded, seeded_below
 
@@ -208,7 +208,4 @@ def files():
     """Each stored file, by its path below crates/, with the octets that it must have."""
     agree_with_papers()
     cases = list(all_cases())
-    return {
-        "message_vectors/data/cases": case_file(cases),
-        "message_vectors/stdout": "".join(expected(cases)).encode(),
-    }
+    return program_files("message_vectors", cases, expected(cases))

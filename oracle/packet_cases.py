@@ -4,7 +4,7 @@ The program `packet_vectors` runs them from its file `cases`. A settings case ho
 """
 
 import packets
-from cases import case_file
+from cases import program_files
 from messages import settings_at_setup
 from seeds import seeded, seeded_below
 from toeplitz import single_bit
@@ -225,7 +225,4 @@ def files():
     """Each stored file, by its path below crates/, with the octets that it must have."""
     agree_with_papers()
     cases = list(all_cases())
-    return {
-        "packet_vectors/data/cases": case_file(cases),
-        "packet_vectors/stdout": "".join(expected(cases)).encode(),
-    }
+    return program_files("packet_vectors", cases, expected(cases))

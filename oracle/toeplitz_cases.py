@@ -7,7 +7,7 @@ body of each the length of the first part, an octet, and then the parts.
 import ipaddress
 
 import toeplitz
-from cases import case_file
+from cases import program_files
 from seeds import seeded
 
 HASH, TWO_WAY, HASH_PROGRAM, TWO_WAY_PROGRAM = range(4)
@@ -150,11 +150,10 @@ def files():
     """Each stored file, by its path below crates/, with the octets that it must have."""
     agree_with_papers()
     cases = list(all_cases())
-    data = case_file((kind, bytes([len(first)]) + first + second) for kind, first, second in cases)
+    bodies = [(kind, bytes([len(first)]) + first + second) for kind, first, second in cases]
     hash_stdin = COUNTING_KEY + b"\x80\x80"
     return {
-        "hash_vectors/data/cases": data,
-        "hash_vectors/stdout": "".join(expected(*case) for case in cases).encode(),
+        **program_files("hash_vectors", bodies, (expected(*case) for case in cases)),
         "hash/stdin": hash_stdin,
         "hash/stdout": toeplitz.hash_program(hash_stdin).encode(),
         "two_way/stdin": SPARSE_KEY,

@@ -17,7 +17,7 @@ use Rattle.ring.specs.Page.{pageSize, areaSize}
 use Rattle.ring.specs.Reading.{whole}
 use Rattle.backend.specs.States.{queuesWrong, interfaceAtSetup, setUpOutcome}
 use Rattle.backend.specs.Events.{After, waiting, ackWritten, ackOwed, pageWrong, requestsWrong, responsesWrong, unread, unreadAcks}
-use Rattle.backend.specs.Events.{owes, responded, readIn, carriedOver, eventOf, answerNumber}
+use Rattle.backend.specs.Events.{refusedWith, owes, responded, readIn, carriedOver, proceeded, eventOf, answerNumber}
 use Rattle.backend.specs.Rules.{Accepted, room, afterReading}
 use Rattle.backend.specs.declared.Interface.{Interface}
 use Rattle.backend.specs.declared.EventAnswer.{EventAnswer}
@@ -88,98 +88,86 @@ read-owes : (s : Interface) (page : List ℕ) → owes s ≡ false → owes (aft
 unfolding readIn
 read-owes s page idle = idle
 
--- which way an event went, with the answer
-data Way (s : Interface) (page : List ℕ) (a : After) : Type 0 where
-  wrong-page : (length page ≡ pageSize → ⊥) → a .answer ≡ pageWrong → a .state ≡ s → a .page ≡ page → Way s page a
-  wrong-requests : length page ≡ pageSize → areaSize < unread s page → a .answer ≡ requestsWrong → a .state ≡ s → a .page ≡ page → Way s page a
-  wrong-responses : length page ≡ pageSize → unread s page ≤ areaSize → areaSize < unreadAcks s page
-      → a .answer ≡ responsesWrong → a .state ≡ s → a .page ≡ page → Way s page a
-  good-counts : Accepted s page → a .answer ≤ ackOwed → Way s page a
-
-way : (s : Interface) (page : List ℕ) → Way s page (eventOf s page)
-way s page =
-    event-ways s page (Way s page) (λ h. wrong-page h refl refl refl) (λ e h. wrong-requests e h refl refl refl)
-    (λ e r h. wrong-responses e r h refl refl refl)
-    (λ ok. good-counts ok (proceeded-cases s page (λ (a : After). a .answer ≤ ackOwed) (λ o. small s) (λ i w. omega arith)
-    (λ i w. small (carriedOver (afterReading s page)))))
-  where
-    small : (t : Interface) → responded t page (room s page) .answer ≤ ackOwed
-    small t = ⊎-elim (λ e. omega arith) (λ e. omega arith) (responded-answer t page (room s page))
+-- what the answer tells of an event, and what a refusal leaves
+record Told (s : Interface) (page : List ℕ) (a : After) : Type 0 where
+  wrong-page : (a .answer ≡ pageWrong) ↔ (length page ≡ pageSize → ⊥)
+  wrong-requests : (a .answer ≡ requestsWrong) ↔ ((length page ≡ pageSize) × (areaSize < unread s page))
+  wrong-responses : (a .answer ≡ responsesWrong)
+      ↔ ((length page ≡ pageSize) × (unread s page ≤ areaSize) × (areaSize < unreadAcks s page))
+  accepted : (a .answer ≤ ackOwed) ↔ Accepted s page
+  leaves : ackOwed < a .answer → (a .state ≡ s) × (a .page ≡ page)
 
 module _ (s : Interface) (page : List ℕ) where
+  told-page : (length page ≡ pageSize → ⊥) → Told s page (refusedWith pageWrong s page)
+  told-page wrong =
+      record {
+        wrong-page = (λ e. wrong, λ h. refl);
+        wrong-requests = (λ e. absurd (omega arith), λ h. absurd (wrong (h .0)));
+        wrong-responses = (λ e. absurd (omega arith), λ h. absurd (wrong (h .0)));
+        accepted = (λ l. absurd (omega arith), λ ok. absurd (wrong (ok .size)));
+        leaves = λ h. (refl, refl);
+      }
+
+  told-requests : length page ≡ pageSize → areaSize < unread s page → Told s page (refusedWith requestsWrong s page)
+  told-requests size many =
+      record {
+        wrong-page = (λ e. absurd (omega arith), λ h. absurd (h size));
+        wrong-requests = (λ e. (size, many), λ h. refl);
+        wrong-responses = (λ e. absurd (omega arith), λ h. absurd (omega arith));
+        accepted = (λ l. absurd (omega arith), λ ok. absurd (omega arith));
+        leaves = λ h. (refl, refl);
+      }
+
+  told-responses : length page ≡ pageSize → unread s page ≤ areaSize → areaSize < unreadAcks s page
+      → Told s page (refusedWith responsesWrong s page)
+  told-responses size few many =
+      record {
+        wrong-page = (λ e. absurd (omega arith), λ h. absurd (h size));
+        wrong-requests = (λ e. absurd (omega arith), λ h. absurd (omega arith));
+        wrong-responses = (λ e. (size, few, many), λ h. refl);
+        accepted = (λ l. absurd (omega arith), λ ok. absurd (omega arith));
+        leaves = λ h. (refl, refl);
+      }
+
+  told-accepted : (a : After) → a .answer ≤ ackOwed → Accepted s page → Told s page a
+  told-accepted a small ok =
+      record {
+        wrong-page = (λ e. absurd (omega arith), λ h. absurd (h (ok .size)));
+        wrong-requests = (λ e. absurd (omega arith), λ h. absurd (omega arith));
+        wrong-responses = (λ e. absurd (omega arith), λ h. absurd (omega arith));
+        accepted = (λ l. ok, λ _. small);
+        leaves = λ h. absurd (omega arith);
+      }
+
+  -- where the counts are good, the answer is 0, 1 or 2
+  answer-small : proceeded s page (unread s page) (room s page) .answer ≤ ackOwed
+  answer-small =
+      proceeded-cases s page (λ (a : After). a .answer ≤ ackOwed) (λ o. small s) (λ i w. omega arith)
+      (λ i w. small (carriedOver (afterReading s page)))
+    where
+      small : (t : Interface) → responded t page (room s page) .answer ≤ ackOwed
+      small t = ⊎-elim (λ e. omega arith) (λ e. omega arith) (responded-answer t page (room s page))
+
+  told : Told s page (eventOf s page)
+  told = event-ways s page (Told s page) told-page told-requests told-responses (told-accepted _ answer-small)
+
   -- 3, 4 and 5 are given exactly where their condition is the first that holds, and 0, 1 or 2 where none does
   pub refuses-page : (eventOf s page .answer ≡ pageWrong) ↔ (length page ≡ pageSize → ⊥)
-  refuses-page = (λ e. to (way s page) e, λ h. from (way s page) h)
-    where
-      to : {a : After} → Way s page a → a .answer ≡ pageWrong → length page ≡ pageSize → ⊥
-      to (wrong-page h e _ _) q = h
-      to (wrong-requests _ _ e _ _) q = absurd (omega arith)
-      to (wrong-responses _ _ _ e _ _) q = absurd (omega arith)
-      to (good-counts _ l) q = absurd (omega arith)
-
-      from : {a : After} → Way s page a → (length page ≡ pageSize → ⊥) → a .answer ≡ pageWrong
-      from (wrong-page _ e _ _) h = e
-      from (wrong-requests size _ _ _ _) h = absurd (h size)
-      from (wrong-responses size _ _ _ _ _) h = absurd (h size)
-      from (good-counts ok _) h = absurd (h (ok .size))
+  refuses-page = told .wrong-page
 
   pub refuses-requests : (eventOf s page .answer ≡ requestsWrong) ↔ ((length page ≡ pageSize) × (areaSize < unread s page))
-  refuses-requests = (λ e. to (way s page) e, λ h. from (way s page) h)
-    where
-      to : {a : After} → Way s page a → a .answer ≡ requestsWrong → (length page ≡ pageSize) × (areaSize < unread s page)
-      to (wrong-page _ e _ _) q = absurd (omega arith)
-      to (wrong-requests size high e _ _) q = (size, high)
-      to (wrong-responses _ _ _ e _ _) q = absurd (omega arith)
-      to (good-counts _ l) q = absurd (omega arith)
-
-      from : {a : After} → Way s page a → ((length page ≡ pageSize) × (areaSize < unread s page)) → a .answer ≡ requestsWrong
-      from (wrong-page h _ _ _) (size, high) = absurd (h size)
-      from (wrong-requests _ _ e _ _) x = e
-      from (wrong-responses _ low _ _ _ _) (size, high) = absurd (omega arith)
-      from (good-counts ok _) (size, high) = absurd (omega arith)
+  refuses-requests = told .wrong-requests
 
   pub refuses-responses : (eventOf s page .answer ≡ responsesWrong)
       ↔ ((length page ≡ pageSize) × (unread s page ≤ areaSize) × (areaSize < unreadAcks s page))
-  refuses-responses = (λ e. to (way s page) e, λ h. from (way s page) h)
-    where
-      to : {a : After} → Way s page a → a .answer ≡ responsesWrong
-          → (length page ≡ pageSize) × (unread s page ≤ areaSize) × (areaSize < unreadAcks s page)
-      to (wrong-page _ e _ _) q = absurd (omega arith)
-      to (wrong-requests _ _ e _ _) q = absurd (omega arith)
-      to (wrong-responses size low high e _ _) q = (size, low, high)
-      to (good-counts _ l) q = absurd (omega arith)
-
-      from : {a : After} → Way s page a → ((length page ≡ pageSize) × (unread s page ≤ areaSize) × (areaSize < unreadAcks s page))
-          → a .answer ≡ responsesWrong
-      from (wrong-page h _ _ _) (size, low, high) = absurd (h size)
-      from (wrong-requests _ above _ _ _) (size, low, high) = absurd (omega arith)
-      from (wrong-responses _ _ _ e _ _) x = e
-      from (good-counts ok _) (size, low, high) = absurd (omega arith)
+  refuses-responses = told .wrong-responses
 
   pub accepts-exactly : (eventOf s page .answer ≤ ackOwed) ↔ Accepted s page
-  accepts-exactly = (λ l. to (way s page) l, λ ok. from (way s page) ok)
-    where
-      to : {a : After} → Way s page a → a .answer ≤ ackOwed → Accepted s page
-      to (wrong-page _ e _ _) q = absurd (omega arith)
-      to (wrong-requests _ _ e _ _) q = absurd (omega arith)
-      to (wrong-responses _ _ _ e _ _) q = absurd (omega arith)
-      to (good-counts ok _) q = ok
-
-      from : {a : After} → Way s page a → Accepted s page → a .answer ≤ ackOwed
-      from (wrong-page h _ _ _) ok = absurd (h (ok .size))
-      from (wrong-requests _ high _ _ _) ok = absurd (omega arith)
-      from (wrong-responses _ _ high _ _ _) ok = absurd (omega arith)
-      from (good-counts _ l) ok = l
+  accepts-exactly = told .accepted
 
   -- 3, 4 and 5 leave state and page as before
   pub refused-leaves-all : ackOwed < eventOf s page .answer → (eventOf s page .state ≡ s) × (eventOf s page .page ≡ page)
-  refused-leaves-all h = by (way s page) h
-    where
-      by : {a : After} → Way s page a → ackOwed < a .answer → (a .state ≡ s) × (a .page ≡ page)
-      by (wrong-page _ _ same still) q = (same, still)
-      by (wrong-requests _ _ _ same still) q = (same, still)
-      by (wrong-responses _ _ _ _ same still) q = (same, still)
-      by (good-counts _ l) q = absurd (omega arith)
+  refused-leaves-all = told .leaves
 
   -- 2 exactly where octets of an ack are owed after the event, and 1 or 0 where none are
   pub owed-exactly : (eventOf s page .answer ≡ ackOwed) ↔ (Accepted s page × (owes (eventOf s page .state) ≡ true))

@@ -73,7 +73,8 @@ pub fn receive(page: &[u8], incoming: Incoming, unread: u32) -> Incoming
 // octets that is.
 fn read_header(page: &[u8], header: &mut [u8], taken: u64, count: u32, n: u64) -> u64
     requires { ⌜ (length (now page) ≡ pageSize) × (length (now header) ≡ headerSize) ⌝ }
-    ensures { λ r. ⌜ (r ≡ headerMoved taken n) × (now (header .exit) ≡ sets (now (header .entry)) taken (octetsIn requestsAt (now (page .entry)) count r)) ⌝ }
+    ensures { λ r. ⌜ r ≡ headerMoved taken n ⌝ }
+    ensures { λ r. ⌜ now (header .exit) ≡ sets (now (header .entry)) taken (octetsIn requestsAt (now (page .entry)) count r) ⌝ }
 {
     if taken >= HEADER_OCTETS {
         return 0;
@@ -100,7 +101,8 @@ fn read_payload(
 ) -> u64
     requires { ⌜ (length (now page) ≡ pageSize) × (length (now header) ≡ headerSize) × (length (now payload) ≡ maxPayload) ⌝ }
     requires { ⌜ (n ≤ areaSize) × (taken ≤ messageLength (now header)) ⌝ }
-    ensures { λ r. ⌜ (r ≡ payloadMoved (now (header .entry)) taken n) × (now (payload .exit) ≡ sets (now (payload .entry)) (taken - headerSize) (octetsIn requestsAt (now (page .entry)) count r)) ⌝ }
+    ensures { λ r. ⌜ r ≡ payloadMoved (now (header .entry)) taken n ⌝ }
+    ensures { λ r. ⌜ now (payload .exit) ≡ sets (now (payload .entry)) (taken - headerSize) (octetsIn requestsAt (now (page .entry)) count r) ⌝ }
 {
     if taken < HEADER_OCTETS {
         return 0;

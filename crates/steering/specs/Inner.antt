@@ -1,16 +1,23 @@
 -- What the inner functions promise: no part of the public promise.
 -- Assumes nothing.
+use mathlib.Core.Path.{_≡_}
 use mathlib.Core.List.{List}
 use mathlib.Core.Bool.{cond}
-use Prim.Native.Nat.{ℕ, _+_}
-use lib.ListN.{take}
+use Prim.Native.Nat.{ℕ, _+_, _≤_}
+use lib.ListN.{length, take}
 use Rattle.toeplitz.specs.Hash.{publishedHash}
-use Rattle.toeplitz.specs.TwoWay.{addressSize}
+use Rattle.toeplitz.specs.TwoWay.{lastType, addressSize, inputSize}
 use Rattle.steering.specs.Steering.{isSet, plainType, Choice, unhashed, hashedTo}
 
 -- octets of the two addresses, which are the input of the plain type beside type t
 abbrev pub plainSize : ℕ → ℕ
 plainSize t = addressSize t + addressSize t
+
+-- an input of type t, and how many of its octets are the plain type's
+pub record OwnInput (t : ℕ) (input : List ℕ) (plain : ℕ) : Type 0 where
+  pub known : t ≤ lastType
+  pub size : length input ≡ inputSize t
+  pub addresses : plain ≡ plainSize t
 
 -- the choice for a packet whose own type is t, with the input of that type
 unfoldable pub steeredIp : ℕ → List ℕ → List ℕ → ℕ → List ℕ → Choice

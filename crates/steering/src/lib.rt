@@ -5,9 +5,9 @@ ghost use mathlib.Core.Path.{_≡_};
 ghost use Prim.Native.Nat.{_≤_};
 ghost use lib.ListN.{length};
 ghost use Rattle.toeplitz.specs.Hash.{maxInput, publishedHash};
-ghost use Rattle.toeplitz.specs.TwoWay.{lastType, inputSize};
+ghost use Rattle.toeplitz.specs.TwoWay.{lastType};
 ghost use Rattle.steering.specs.Steering.{Usable, isSet, hashedTo, steered, choiceOf};
-ghost use Rattle.steering.specs.Inner.{plainSize, steeredIp};
+ghost use Rattle.steering.specs.Inner.{OwnInput, steeredIp};
 use packet::Found;
 use toeplitz::HashAnswer;
 
@@ -55,7 +55,7 @@ fn steer_ip(
     input: &[u8],
     plain_size: usize,
 ) -> Steered
-    requires { ⌜ Usable (now key) (now table) × («hash_type» ≤ lastType) × (length (now input) ≡ inputSize «hash_type») × («plain_size» ≡ plainSize «hash_type») ⌝ }
+    requires { ⌜ Usable (now key) (now table) × OwnInput «hash_type» (now input) «plain_size» ⌝ }
     ensures { λ r. ⌜ choiceOf r ≡ steeredIp flags (now (key .entry)) (now (table .entry)) «hash_type» (now (input .entry)) ⌝ }
 {
     if is_set(flags, hash_type) {

@@ -32,7 +32,7 @@ steer-ip-requires : tie.Need-steer-ip-requires
 steer-ip-requires c κs =
     let d = c .before .before in
     let f = found d in
-    (start d .pre, f .known, part-length _ _ _ _ _ f, omega (arith, f .begins, f .parted))
+    (start d .pre, record { known = f .known; size = part-length _ _ _ _ _ f; addresses = omega (arith, f .begins, f .parted) })
 
 returns : tie.Need-returns
 returns c =

@@ -15,7 +15,7 @@ use Rattle.steering.proofs.steer_ip.Tie as tie
 hashed-requires : tie.Need-hashed-requires
 hashed-requires c κs =
     let pre = c .before .before .before .before .before .pre in
-    (pre .0, rw (pre .2) (input-short _ (pre .1)))
+    (pre .0, rw (pre .1 .size) (input-short _ (pre .1 .known)))
 
 returns : tie.Need-returns
 unfolding steeredIp
@@ -24,7 +24,7 @@ returns c = rw (sym (c .before .before .is-set .ensures) ∙ c .before .if1 .tak
 hashed-requires-2 : tie.Need-hashed-requires-2
 hashed-requires-2 c κs =
     let start = c .before .before .before .before .before .before .before .before in
-    let short : length (start .args .input .now) ≤ maxInput = rw (start .pre .2) (input-short _ (start .pre .1)) in
+    let short : length (start .args .input .now) ≤ maxInput = rw (start .pre .1 .size) (input-short _ (start .pre .1 .known)) in
     (start .pre .0, rw length-take (omega arith))
 
 returns-2 : tie.Need-returns-2
@@ -33,7 +33,7 @@ returns-2 c =
     let plain = c .before .before .before in
     let own = plain .before .before in
     let start = own .before .before .before .before in
-    let size : start .args .plain-size - 0 ≡ plainSize (start .args .hash-type) = omega (arith, start .pre .3) in
+    let size : start .args .plain-size - 0 ≡ plainSize (start .args .hash-type) = omega (arith, start .pre .1 .addresses) in
     rw (sym (own .is-set .ensures) ∙ plain .before .if1 .left, sym (plain .is-set2 .ensures) ∙ c .before .before .if2 .taken)
     (rw size at (c .hashed2 .ensures))
 
