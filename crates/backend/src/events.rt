@@ -118,7 +118,7 @@ fn carry_over(interface: Interface) -> Interface
     let payload = message.payload;
     let kind = octets::read_u32(&header, 0);
     let size = octets::read_u32(&header, SIZE_AT);
-    let carried = messages::carry_out(settings, kind, size, payload);
+    let carried = messages::carry_out(settings, kind, size, &payload);
     let next = carried.settings;
     let ack = carried.ack;
     let octets = ack.octets;

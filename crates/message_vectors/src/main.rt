@@ -100,7 +100,7 @@ fn request(settings: Settings, body: &[u8]) -> Settings {
         settings,
         octets::read_u32(body, 0),
         octets::read_u32(body, 4),
-        payload,
+        &payload,
     );
     print_carried(carried);
     carried.settings

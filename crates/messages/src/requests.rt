@@ -30,20 +30,20 @@ const KEY_SIZE: u32 = KEY_LENGTH as u32;
 const MOST_ENTRIES: u32 = MAX_ENTRIES as u32;
 
 // Carries out the message of type `kind` with `size` octets of payload, of which the first 1,024 are kept.
-pub fn carry_out(settings: Settings, kind: u32, size: u32, payload: [u8; MAX_PAYLOAD]) -> Carried
-    ensures { λ r. ⌜ r ≡ carriedOut settings kind size payload ⌝ }
+pub fn carry_out(settings: Settings, kind: u32, size: u32, payload: &[u8; MAX_PAYLOAD]) -> Carried
+    ensures { λ r. ⌜ r ≡ carriedOut settings kind size (now (payload .entry)) ⌝ }
 {
     if kind == GET_FLAGS {
         return get_flags(settings, size);
     }
     if kind == SET_FLAGS {
-        return set_flags(settings, size, &payload);
+        return set_flags(settings, size, payload);
     }
     if kind == SET_KEY {
-        return set_key(settings, size, &payload);
+        return set_key(settings, size, payload);
     }
     if kind == SET_MAPPING {
-        return set_mapping(settings, size, &payload);
+        return set_mapping(settings, size, payload);
     }
     answer(settings, NOT_SUPPORTED)
 }

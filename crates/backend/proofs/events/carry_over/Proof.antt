@@ -21,7 +21,7 @@ read-u32-requires-2 c κs = omega (arith, header-long (c .before .before .before
 returns : tie.Need-returns
 returns c =
     let carried = c .before .before .before in
-    let size = carried .before in
+    let size = carried .before .before in
     let kind = size .before .before in
     let s = kind .before .before .before .before .before .before .before .before in
     carries (s .args .interface) _ _ (carried .carry-out .result) (kind .read-u32 .ensures) (size .read-u322 .ensures)
