@@ -1,2 +1,3 @@
--- The laws of `packet` that other crates cite.
+-- The laws of `packet`.
+pub mod Looks
 pub mod Theorems

@@ -36,6 +36,21 @@ plain-input (suc (suc zero)) p h = take-take 32 32 (drop 8 p) (lit≤ tt)
 plain-input (suc (suc (suc zero))) p h = take-take 32 36 (drop 8 p) (lit≤ tt)
 plain-input (suc (suc (suc (suc t)))) p h = absurd (omega arith)
 
+-- the choice for an input of type t: by its own type, by the plain type, or none
+module _ (flags : ℕ) (key table input : List ℕ) (t : ℕ) where
+  pub steered-own : isSet flags t ≡ true → hashedTo t (publishedHash key input) table ≡ steeredIp flags key table t input
+  unfolding steeredIp
+  steered-own own = rw own refl
+
+  pub steered-plain : isSet flags t ≡ false → isSet flags (plainType t) ≡ true
+      → hashedTo (plainType t) (publishedHash key (take (plainSize t) input)) table ≡ steeredIp flags key table t input
+  unfolding steeredIp
+  steered-plain not-own plain = rw (not-own, plain) refl
+
+  pub steered-none : isSet flags t ≡ false → isSet flags (plainType t) ≡ false → unhashed 0 ≡ steeredIp flags key table t input
+  unfolding steeredIp
+  steered-none not-own not-plain = rw (not-own, not-plain) refl
+
 -- where nothing is found the packet is of no kind
 none-kind : (k : PacketType) → none ≡ lookAt k → k ≡ noType
 unfolding lookAt

@@ -7,12 +7,9 @@ use Rattle.steering.specs.Steering.{queueOf}
 use Rattle.steering.proofs.at_hash.Statement.{statement}
 use Rattle.steering.proofs.at_hash.Tie as tie
 
-shared-slice-read-t8 : tie.Need-shared-slice-read-t8
-shared-slice-read-t8 c = mod-lt (c .before .args .hash) (c .before .pre)
-
 returns : tie.Need-returns
 unfolding queueOf
 returns c = refl
 
 pub at-hash-spec : {M : Type 1} → statement M
-at-hash-spec = tie.close (tie.spec (λ c. search needs) shared-slice-read-t8 returns)
+at-hash-spec = tie.close (tie.spec (λ c. search needs) (λ c. mod-lt (c .before .args .hash) (c .before .pre)) returns)

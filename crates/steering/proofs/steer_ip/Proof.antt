@@ -1,4 +1,4 @@
--- `steering::steer_ip` meets its contract: the tests on the flags pick the case of `steeredIp`.
+-- `steering::steer_ip` meets its contract: the tests on the flags pick the type.
 -- Assumes nothing.
 use mathlib.Core.Path.{_≡_, sym, ap, _∙_}
 use Prim.Native.Nat.{_-_, _≤_}
@@ -7,8 +7,9 @@ use lib.ListN.{length, length-take}
 use borrow.Author.Needs.{needs}
 use Rattle.toeplitz.specs.Hash.{maxInput}
 use Rattle.steering.specs.Steering.{choiceOf}
-use Rattle.steering.specs.Inner.{plainSize, steeredIp}
+use Rattle.steering.specs.Inner.{plainSize}
 use Rattle.toeplitz.proofs.Theorems.{input-short}
+use Rattle.steering.proofs.Choices.{steered-own, steered-plain, steered-none}
 use Rattle.steering.proofs.steer_ip.Statement.{statement}
 use Rattle.steering.proofs.steer_ip.Tie as tie
 
@@ -18,8 +19,7 @@ hashed-requires c κs =
     (pre .0, rw (pre .1 .size) (input-short _ (pre .1 .known)))
 
 returns : tie.Need-returns
-unfolding steeredIp
-returns c = rw (sym (c .before .before .is-set .ensures) ∙ c .before .if1 .taken) (c .hashed .ensures)
+returns c = c .hashed .ensures ∙ steered-own _ _ _ _ _ (sym (c .before .before .is-set .ensures) ∙ c .before .if1 .taken)
 
 hashed-requires-2 : tie.Need-hashed-requires-2
 hashed-requires-2 c κs =
@@ -28,22 +28,22 @@ hashed-requires-2 c κs =
     (start .pre .0, rw length-take (omega arith))
 
 returns-2 : tie.Need-returns-2
-unfolding steeredIp
 returns-2 c =
     let plain = c .before .before .before in
     let own = plain .before .before in
     let start = own .before .before .before .before in
     let size : start .args .plain-size - 0 ≡ plainSize (start .args .hash-type) = omega (arith, start .pre .1 .addresses) in
-    rw (sym (own .is-set .ensures) ∙ plain .before .if1 .left, sym (plain .is-set2 .ensures) ∙ c .before .before .if2 .taken)
-    (rw size at (c .hashed2 .ensures))
+    rw size at (c .hashed2 .ensures)
+    ∙ steered-plain _ _ _ _ _ (sym (own .is-set .ensures) ∙ plain .before .if1 .left)
+    (sym (plain .is-set2 .ensures) ∙ c .before .before .if2 .taken)
 
 returns-3 : tie.Need-returns-3
-unfolding steeredIp
 returns-3 c =
     let plain = c .before .before in
     let own = plain .before .before in
-    rw (sym (own .is-set .ensures) ∙ plain .before .if1 .left, sym (plain .is-set2 .ensures) ∙ c .before .if2 .left)
-    (ap choiceOf (c .unhashed .ensures))
+    ap choiceOf (c .unhashed .ensures)
+    ∙ steered-none _ _ _ _ _ (sym (own .is-set .ensures) ∙ plain .before .if1 .left)
+    (sym (plain .is-set2 .ensures) ∙ c .before .if2 .left)
 
 pub steer-ip-spec : {M : Type 1} → statement M
 steer-ip-spec =

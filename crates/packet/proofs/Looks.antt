@@ -1,0 +1,28 @@
+-- What is found of a packet that has passed the tests of a kind.
+-- Assumes nothing.
+use mathlib.Core.Path.{_≡_, refl}
+use mathlib.Core.List.{List}
+use mathlib.Core.Bool.{true, false}
+use Prim.Native.Nat.{ℕ}
+use Rattle.packet.specs.Packets.{isIpv4, isIpv6, isTcp, kindOf, none, typed, lookAt}
+
+module _ (p : List ℕ) where
+  pub found-ipv4-tcp : isIpv4 p ≡ true → isTcp 9 24 p ≡ true → typed 1 12 20 24 ≡ lookAt (kindOf p)
+  unfolding kindOf lookAt
+  found-ipv4-tcp four tcp = rw (four, tcp) refl
+
+  pub found-ipv4 : isIpv4 p ≡ true → isTcp 9 24 p ≡ false → typed 0 12 20 20 ≡ lookAt (kindOf p)
+  unfolding kindOf lookAt
+  found-ipv4 four plain = rw (four, plain) refl
+
+  pub found-ipv6-tcp : isIpv4 p ≡ false → isIpv6 p ≡ true → isTcp 6 44 p ≡ true → typed 3 8 40 44 ≡ lookAt (kindOf p)
+  unfolding kindOf lookAt
+  found-ipv6-tcp not-four six tcp = rw (not-four, six, tcp) refl
+
+  pub found-ipv6 : isIpv4 p ≡ false → isIpv6 p ≡ true → isTcp 6 44 p ≡ false → typed 2 8 40 40 ≡ lookAt (kindOf p)
+  unfolding kindOf lookAt
+  found-ipv6 not-four six plain = rw (not-four, six, plain) refl
+
+  pub found-none : isIpv4 p ≡ false → isIpv6 p ≡ false → none ≡ lookAt (kindOf p)
+  unfolding kindOf lookAt
+  found-none not-four not-six = rw (not-four, not-six) refl
