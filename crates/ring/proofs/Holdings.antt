@@ -9,12 +9,13 @@ use lib.ListN.{length, take, drop, set, length-append, length-take, length-drop,
 use lib.Seq.{take-all, take-length, take-append-le, take-append-add, drop-append-le, append-snoc, getD-take}
 use lib.Seq.{length-take-le, set-out, take-suc-set}
 use lib.Dec.{leb, ltb}
-use borrow.Author.Tests.{le-leb, lt-leb, leb-true, leb-false, lt-ltb, le-ltb, ltb-true, ltb-false}
+use borrow.Author.Tests.{le-leb, lt-leb, leb-true, leb-false, ltb-true, ltb-false}
 use Rattle.octets.proofs.Numbers.{number-same}
 use Rattle.messages.specs.Wire.{headerSize, maxPayload, sizeIn}
 use Rattle.ring.specs.Reading.{messageLength, whole, withOctet, received}
 use Rattle.ring.specs.Streams.{beginsWhole, firstMessage, presentPart, Holding}
 use Rattle.ring.specs.declared.Message.{Message}
+use Rattle.ring.proofs.Turns.{with-header, with-payload, received-none, received-next, received-whole}
 
 -- the size in a header does not depend on what stands behind the header
 pub size-append : (xs ys : List ℕ) → headerSize ≤ length xs → sizeIn (xs ++ ys) ≡ sizeIn xs
@@ -28,31 +29,6 @@ size-take xs = size-front headerSize xs (omega arith)
 
 length-snoc : (xs : List ℕ) (x : ℕ) → length (xs ++ (x ∷ [])) ≡ suc (length xs)
 length-snoc xs x = length-append xs (x ∷ []) ∙ omega arith
-
--- one octet more, of the header and of the payload
-with-header : (m : Message) (x : ℕ) → m .taken < headerSize
-    → withOctet m x ≡ record { header = set (m .header) (m .taken) x; payload = m .payload; taken = m .taken + 1 }
-unfolding withOctet
-with-header m x h = rw (lt-ltb (m .taken) headerSize h) refl
-
-with-payload : (m : Message) (x : ℕ) → headerSize ≤ m .taken
-    → withOctet m x ≡ record { header = m .header; payload = set (m .payload) (m .taken - headerSize) x; taken = m .taken + 1 }
-unfolding withOctet
-with-payload m x h = rw (le-ltb (m .taken) headerSize h) refl
-
--- received, step by step
-received-none : (m : Message) → received [] m ≡ m
-unfolding received
-received-none m = refl
-
-received-part : (x : ℕ) (ys : List ℕ) (m : Message) → whole m ≡ false → received (x ∷ ys) m ≡ received ys (withOctet m x)
-unfolding received
-received-part x ys m e = rw e refl
-
-received-whole : (ys : List ℕ) (m : Message) → whole m ≡ true → received ys m ≡ m
-unfolding received
-received-whole [] m e = refl
-received-whole (y ∷ ys) m e = rw e refl
 
 -- what is read of a stream, by whether it begins with a whole message
 pub part-whole : (xs : List ℕ) → beginsWhole xs ≡ true → presentPart xs ≡ firstMessage xs
@@ -82,7 +58,7 @@ holding-next m xs x held = by (ltb (length xs) headerSize) refl
     one : length zs ≡ suc (length xs)
     one = length-snoc xs x
 
-    counted : m .taken + 1 ≡ length zs
+    counted : suc (m .taken) ≡ length zs
     counted = omega (arith, one)
 
     in-header : length xs < headerSize → take (length zs) (set (m .header) (m .taken) x) ≡ take headerSize zs
@@ -191,15 +167,15 @@ first-snoc xs x part =
     take-all (messageLength zs) zs (omega (arith, part-least xs (x ∷ []) part, length-snoc xs x))
 
 -- behind the octet x more is read unless the message is whole with it
-received-next : (ys : List ℕ) (m : Message) (xs : List ℕ) (x : ℕ) → Holding m (xs ++ (x ∷ [])) → beginsWhole xs ≡ false
+next-received : (ys : List ℕ) (m : Message) (xs : List ℕ) (x : ℕ) → Holding m (xs ++ (x ∷ [])) → beginsWhole xs ≡ false
     → (beginsWhole (xs ++ (x ∷ [])) ≡ false → Holding (received ys m) (presentPart (xs ++ (x ∷ []) ++ ys)))
     → (b : Bool) → beginsWhole (xs ++ (x ∷ [])) ≡ b → Holding (received ys m) (presentPart (xs ++ (x ∷ []) ++ ys))
-received-next ys m xs x held part more true e =
+next-received ys m xs x held part more true e =
     let zs = xs ++ (x ∷ []) in
     let first = first-append zs ys e in
     let read : presentPart (zs ++ ys) ≡ zs = part-whole (zs ++ ys) (first .0) ∙ first .1 ∙ first-snoc xs x part in
     rw (received-whole ys m (holding-whole m zs held ∙ e), read) held
-received-next ys m xs x held part more false e = more e
+next-received ys m xs x held part more false e = more e
 
 -- octets of ys are read until the message is whole or none is left
 pub holding-received : (ys : List ℕ) (m : Message) (xs : List ℕ) → Holding m xs → beginsWhole xs ≡ false
@@ -207,8 +183,8 @@ pub holding-received : (ys : List ℕ) (m : Message) (xs : List ℕ) → Holding
 holding-received [] m xs held part = rw (received-none m, append-nil xs, part-all xs part) held
 holding-received (x ∷ ys) m xs held part =
     let zs = xs ++ (x ∷ []) in
-    rw (received-part x ys m (holding-whole m xs held ∙ part), ← (append-snoc xs x ys))
-    (received-next ys (withOctet m x) xs x (holding-next m xs x held) part
+    rw (received-next x ys m (holding-whole m xs held ∙ part), ← (append-snoc xs x ys))
+    (next-received ys (withOctet m x) xs x (holding-next m xs x held) part
     (λ more. holding-received ys (withOctet m x) zs (holding-next m xs x held) more)
     (beginsWhole zs)
     refl)

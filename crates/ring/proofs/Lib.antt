@@ -1,6 +1,7 @@
 -- The laws of `ring` that other crates cite.
 pub mod Places
 pub mod Untouched
+pub mod Turns
 pub mod Steps
 pub mod Sides
 pub mod Holdings

@@ -16,7 +16,6 @@ use Rattle.ring.specs.Writing.{fitting, sent, outgoingAtSetup, GoodOutgo
 use Rattle.ring.specs.declared.Message.{Message}
 use Rattle.ring.specs.declared.Incoming.{Incoming}
 use Rattle.ring.specs.declared.Outgoing.{Outgoing}
-use Rattle.ring.proofs.Places.{octets-length}
 
 -- a message with the same sizes, and n octets more
 pub record Grown (m r : Message) (n : ℕ) : Type 0 where
@@ -49,14 +48,6 @@ grown (x ∷ xs) m =
 -- the difference of a count and itself advanced is what it was advanced by
 pub less-advanced : (c n : ℕ) → c < 2 ^ 32 → n < 2 ^ 32 → less (advanced c n) c ≡ n
 less-advanced c n hc hn = omega arith
-
--- of n octets unread, no more are read
-pub read-most : (page : List ℕ) (i : Incoming) (n : ℕ) → receivedFrom page i n .message .taken - i .message .taken ≤ n
-unfolding receivedFrom
-read-most page i n =
-    let g = grown (octetsIn requestsAt page (i .«req_cons») n) (i .message) in
-    let l = octets-length requestsAt page (i .«req_cons») n in
-    omega arith
 
 -- a message of which nothing is read is not whole
 pub none-waits : (header : List ℕ) → isWhole header 0 ≡ false

@@ -5,12 +5,11 @@ use mathlib.Core.List.{List, [], _∷_, _++_, append-assoc}
 use mathlib.Core.Bool.{Bool, true, false}
 use Prim.Native.Nat.{ℕ, zero, suc, _+_, _-_, _^_, _≤_, _<_, min}
 use native.Mathlib.Nat.{add-zero}
-use native.Mathlib.Numerals.{add-one}
 use native.Mathlib.Omega.{arith}
 use lib.ListN.{length, set, take, drop, length-set, length-take, length-drop}
 use lib.Seq.{sets, sets-eq, set-out, take-nil, drop-drop}
 use lib.Dec.{leb, ltb}
-use borrow.Author.Tests.{lt-ltb, le-ltb, lt-leb, ltb-true, ltb-false, leb-true, leb-false}
+use borrow.Author.Tests.{lt-leb, ltb-true, ltb-false, leb-true, leb-false}
 use borrow.Rule.Slice.PartMut.{putMid}
 use Rattle.octets.specs.Numbers.{AreOctets}
 use Rattle.octets.proofs.Numbers.{number-four}
@@ -20,37 +19,8 @@ use Rattle.ring.specs.Reading.{messageLength, isWhole, whole, withOctet,
 use Rattle.ring.specs.Inner.{headerMoved, payloadMoved}
 use Rattle.ring.specs.declared.Message.{Message}
 use Rattle.ring.specs.declared.Incoming.{Incoming}
+use Rattle.ring.proofs.Turns.{parts, with-header, with-payload, received-none, received-next, received-whole}
 use Rattle.ring.proofs.Places.{octets-same, octets-length, octets-none, octets-add, octets-take}
-
--- the message with these parts
-abbrev pub parts : List ℕ → List ℕ → ℕ → Message
-parts header payload taken = record { header = header; payload = payload; taken = taken }
-
--- one octet into the header, or into the payload
-with-header : (m : Message) (x : ℕ) → m .taken < headerSize
-    → withOctet m x ≡ parts (set (m .header) (m .taken) x) (m .payload) (suc (m .taken))
-unfolding withOctet
-with-header m x h = rw (lt-ltb (m .taken) headerSize h, add-one (m .taken)) refl
-
-with-payload : (m : Message) (x : ℕ) → headerSize ≤ m .taken
-    → withOctet m x ≡ parts (m .header) (set (m .payload) (m .taken - headerSize) x) (suc (m .taken))
-unfolding withOctet
-with-payload m x h = rw (le-ltb (m .taken) headerSize h, add-one (m .taken)) refl
-
-received-none : (m : Message) → received [] m ≡ m
-unfolding received
-received-none m = refl
-
--- a message that is not whole takes the first octet
-received-next : (x : ℕ) (xs : List ℕ) (m : Message) → whole m ≡ false → received (x ∷ xs) m ≡ received xs (withOctet m x)
-unfolding received
-received-next x xs m w = rw w refl
-
--- a whole message takes no octet
-pub received-whole : (xs : List ℕ) (m : Message) → whole m ≡ true → received xs m ≡ m
-unfolding received
-received-whole [] m w = refl
-received-whole (x ∷ xs) m w = rw w refl
 
 -- octets of one list and then of another
 append-by : (b : Bool) (x : ℕ) (xs ys : List ℕ) (m : Message) → whole m ≡ b
