@@ -1,25 +1,34 @@
 -- Good settings can be asked for a packet's queue, and each queue that they give is below the queue count.
 -- Assumes nothing.
+use mathlib.Core.Path.{_≡_}
 use mathlib.Core.List.{List}
+use mathlib.Core.Bool.{true}
 use Prim.Native.Nat.{ℕ, _≤_, _<_}
-use lib.ListN.{length}
+use lib.ListN.{length, take}
 use lib.Seq.{length-take-le}
 use lib.Pow.{pow-pos}
-use Rattle.messages.specs.Settings.{tableOf, Good}
+use Rattle.toeplitz.specs.Hash.{keyLength}
+use Rattle.messages.specs.Settings.{maxEntries, isListed, tableOf, Good}
 use Rattle.messages.specs.declared.Settings.{Settings}
 use Rattle.messages.proofs.Powers.{power-exactly, listed-parts}
 use Rattle.steering.specs.Steering.{Usable, queueIn}
 use Rattle.steering.proofs.Theorems.{queue-below}
 use Rattle.backend.specs.States.{steeredBy}
 
+-- a key of 40 octets can be asked, with a mapping of a listed number of entries
+pub usable : (key entries : List ℕ) (count : ℕ) → length key ≡ keyLength → length entries ≡ maxEntries → isListed count ≡ true
+    → Usable key (take count entries)
+usable key entries count whole size listed =
+    let x = listed-parts count .0 listed in
+    let p = power-exactly count .0 (x .0) in
+    let some : 1 ≤ count = rw (p .1) (pow-pos (p .0)) in
+    let long : count ≤ length entries = rw size (x .1) in
+    record { key-whole = whole; some-entry = rw (length-take-le count entries long) some }
+
 pub good-usable : (s : Settings) → Good s → Usable (s .key) (tableOf (s .mapping))
 good-usable s good =
     let m = good .mapping in
-    let x = listed-parts (s .mapping .count) .0 (m .listed) in
-    let p = power-exactly (s .mapping .count) .0 (x .0) in
-    let some : 1 ≤ s .mapping .count = rw (p .1) (pow-pos (p .0)) in
-    let long : s .mapping .count ≤ length (s .mapping .entries) = rw (m .size) (x .1) in
-    record { key-whole = good .key; some-entry = rw (length-take-le (s .mapping .count) (s .mapping .entries) long) some }
+    usable (s .key) (s .mapping .entries) (s .mapping .count) (good .key) (m .size) (m .listed)
 
 pub good-queue : (s : Settings) (packet : List ℕ) → Good s → queueIn (steeredBy s packet) < s .queues
 good-queue s packet good =

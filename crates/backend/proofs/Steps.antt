@@ -2,28 +2,23 @@
 -- Assumes nothing.
 use mathlib.Core.Path.{_≡_, refl, ap, _∙_}
 use mathlib.Core.List.{List}
-use mathlib.Core.Bool.{true, false, cond}
+use mathlib.Core.Bool.{true, false}
 use Prim.Native.Nat.{ℕ, _-_, _≤_, _<_}
 use lib.ListN.{length}
 use borrow.Author.Tests.{eq-eqb, ne-eqb, le-leb, lt-leb}
-use Rattle.messages.specs.Wire.{typeIn, sizeIn}
-use Rattle.messages.specs.Requests.{carriedOut}
 use Rattle.messages.specs.declared.Carried.{Carried}
-use Rattle.ring.specs.Page.{pageSize, areaSize, responsesAt, counted, put}
-use Rattle.ring.specs.Reading.{whole}
-use Rattle.ring.specs.Writing.{fitting, sentOctets, sent}
+use Rattle.ring.specs.Page.{pageSize, areaSize, counted}
+use Rattle.ring.specs.Reading.{whole, receivedFrom}
+use Rattle.ring.specs.declared.Incoming.{Incoming}
 use Rattle.ring.specs.declared.Outgoing.{Outgoing}
 use Rattle.backend.specs.States.{Good}
-use Rattle.backend.specs.Events.{After, waiting, ackWritten, ackOwed, pageWrong, requestsWrong, responsesWrong, unread, unreadAcks}
-use Rattle.backend.specs.Events.{refusedWith, withOutgoing, owes}
-use Rattle.backend.specs.Events.{responded, readIn, carriedIn, carriedOver, afterRead, proceeded, eventOf, after}
+use Rattle.backend.specs.Events.{After, pageWrong, requestsWrong, responsesWrong, unread, unreadAcks, refusedWith, withIncoming, withOutgoing, owes}
+use Rattle.backend.specs.Events.{responded, readIn, carriedIn, carriedOver, afterRead, proceeded, eventOf, left}
+use Rattle.backend.specs.Inner.{Responds}
 use Rattle.backend.specs.declared.Interface.{Interface}
-use Rattle.backend.specs.declared.Handled.{Handled}
+use Rattle.backend.specs.declared.EventAnswer.{EventAnswer}
+use Rattle.backend.specs.declared.EventAnswer.the-variants.{Waiting}
 use Rattle.backend.proofs.Goodness.{read-idle, good-event}
-
--- an answer with the state and the page left
-abbrev pub leaving : ℕ → Interface → List ℕ → After
-leaving k s page = record { answer = k; state = s; page = page }
 
 -- the state with what a request carried out gives
 abbrev over : Interface → Carried → Interface
@@ -35,23 +30,26 @@ over s c =
       outgoing = record { ack = c .ack .octets; length = c .ack .length; written = 0; «rsp_prod» = s .outgoing .«rsp_prod» };
     }
 
--- the message carried out by the type and size in its header
-pub carries : (s : Interface) (kind size : ℕ) (c : Carried) → kind ≡ typeIn (s .incoming .message .header)
-    → size ≡ sizeIn (s .incoming .message .header) → c ≡ carriedOut (s .settings) kind size (s .incoming .message .payload)
-    → over s c ≡ carriedOver s
+-- the message carried out
+pub carries : (s : Interface) (c : Carried) → c ≡ carriedIn s → over s c ≡ carriedOver s
 unfolding carriedOver
-carries s kind size c k z e =
-    let same : c ≡ carriedIn s = rw (← k, ← z) e in
-    ap (over s) same
+carries s c e = ap (over s) e
+
+-- the message read
+pub reads : (s : Interface) (page : List ℕ) (n : ℕ) (i : Incoming) → i ≡ receivedFrom page (s .incoming) n → withIncoming s i ≡ readIn s page n
+unfolding readIn
+reads s page n i e = ap (withIncoming s) e
 
 -- ack octets sent, and the counts written
-pub responds : (s : Interface) (page middle left : List ℕ) (room : ℕ) (o : Outgoing)
-    → o ≡ sent (s .outgoing) (fitting (s .outgoing) room)
-    → middle ≡ put responsesAt page (s .outgoing .«rsp_prod») (sentOctets (s .outgoing) (fitting (s .outgoing) room))
-    → left ≡ counted middle (s .incoming .«req_cons») (o .«rsp_prod»)
-    → leaving (cond (owes (withOutgoing s o)) ackOwed ackWritten) (withOutgoing s o) left ≡ responded s page room
+pub responds : (s : Interface) (page : List ℕ) (room : ℕ) (r : EventAnswer) (o : Outgoing) (octets : List ℕ)
+    → Responds (s .outgoing) page (s .incoming .«req_cons») room r o octets → left r (withOutgoing s o) octets ≡ responded s page room
 unfolding responded
-responds s page middle left room o e p q = rw (q, p, e) refl
+responds s page room r o octets e = rw (e .answer, e .octets, e .side) refl
+
+-- ack octets owed: they are written
+pub proceeds-owing : (s : Interface) (page : List ℕ) (n room : ℕ) → owes s ≡ true → responded s page room ≡ proceeded s page n room
+unfolding proceeded
+proceeds-owing s page n room owing = rw owing refl
 
 -- no ack owed, and octets read: the message is whole, or not
 module _ (s t : Interface) (page : List ℕ) (n room : ℕ) (good : Good s) (idle : owes s ≡ false) (read : t ≡ readIn s page n) where
@@ -60,10 +58,10 @@ module _ (s t : Interface) (page : List ℕ) (n room : ℕ) (good : Good s) (idl
   unfolding proceeded afterRead
   proceeds-whole u w carried = rw (idle, ← read, w, carried) refl
 
-  pub proceeds-part : (left : List ℕ) → whole (t .incoming .message) ≡ false
-      → left ≡ counted page (t .incoming .«req_cons») (s .outgoing .«rsp_prod») → leaving waiting t left ≡ proceeded s page n room
+  pub proceeds-part : (octets : List ℕ) → whole (t .incoming .message) ≡ false
+      → octets ≡ counted page (t .incoming .«req_cons») (s .outgoing .«rsp_prod») → left Waiting t octets ≡ proceeded s page n room
   unfolding proceeded afterRead
-  proceeds-part left w q =
+  proceeds-part octets w q =
       let same : t .outgoing ≡ s .outgoing = ap (λ (i : Interface). i .outgoing) read ∙ read-idle s page n good in
       rw (idle, ← read, w, q, same) refl
 
@@ -91,7 +89,7 @@ goes-on s page n m size requests few responses some =
     rw (eq-eqb _ _ size, ← requests, le-leb _ _ few, ← responses, le-leb _ _ some) refl
 
 -- the state that an event leaves is good
-pub event-good : (s : Interface) (page left : List ℕ) (r : Handled) → Good s → after r left ≡ eventOf s page → Good (r .interface)
-event-good s page left r good e =
-    let same : r .interface ≡ eventOf s page .state = ap (λ (a : After). a .state) e in
+pub event-good : (s t : Interface) (page octets : List ℕ) (r : EventAnswer) → Good s → left r t octets ≡ eventOf s page → Good t
+event-good s t page octets r good e =
+    let same : t ≡ eventOf s page .state = ap (λ (a : After). a .state) e in
     rw same (good-event s page good)

@@ -129,6 +129,9 @@ answerNumber PageLength = pageWrong
 answerNumber RequestCount = requestsWrong
 answerNumber ResponseCount = responsesWrong
 
--- what a call answered and left
+-- what a call answered and left: by the parts of an interface, and by value
+abbrev pub left : EventAnswer → Interface → List ℕ → After
+left r s page = record { answer = answerNumber r; state = s; page = page }
+
 abbrev pub after : Handled → List ℕ → After
-after r page = record { answer = answerNumber (r .answer); state = r .interface; page = page }
+after r page = left (r .answer) (r .interface) page

@@ -6,17 +6,26 @@ use mathlib.Core.Bool.{cond, _&&_}
 use Prim.Native.Nat.{ℕ, _<_}
 use lib.Dec.{leb}
 use Rattle.octets.specs.Outcome.{Outcome, value, refused}
-use Rattle.messages.specs.Settings.{maxQueues, tableOf, settingsAtSetup, Good as GoodSettings}
+use Rattle.messages.specs.Settings.{maxQueues, tableOf, settingsOf, settingsAtSetup, Good as GoodSettings}
 use Rattle.messages.specs.declared.Settings.{Settings}
 use Rattle.steering.specs.Steering.{Choice, steered}
-use Rattle.ring.specs.Reading.{incomingAtSetup, GoodIncoming}
-use Rattle.ring.specs.Writing.{outgoingAtSetup, owed, GoodOutgoing}
+use Rattle.ring.specs.Reading.{incomingOf, incomingAtSetup, GoodIncoming}
+use Rattle.ring.specs.Writing.{outgoingOf, outgoingAtSetup, owed, GoodOutgoing}
 use Rattle.backend.specs.declared.Interface.{Interface}
 use Rattle.backend.specs.declared.SetUpAnswer.{SetUpAnswer}
 
 -- refusal 6: setup with 0 or more than 64 queues
 abbrev pub queuesWrong : ℕ
 queuesWrong = 6
+
+-- an interface by its parts
+abbrev pub interfaceOf : ℕ → ℕ → List ℕ → List ℕ → ℕ → List ℕ → List ℕ → ℕ → ℕ → List ℕ → ℕ → ℕ → ℕ → Interface
+interfaceOf queues flags key entries count header payload taken reqCons ack size written rspProd =
+    record {
+      settings = settingsOf queues flags key entries count;
+      incoming = incomingOf header payload taken reqCons;
+      outgoing = outgoingOf ack size written rspProd;
+    }
 
 -- a new interface: the settings at setup, nothing read, no ack, both own counts 0
 abbrev pub interfaceAtSetup : ℕ → Interface

@@ -5,8 +5,10 @@ mod packets;
 mod setup;
 
 pub use events::event;
+pub use events::event_in_place;
 use messages::Settings;
 pub use packets::steer;
+pub use packets::steer_in_place;
 use ring::Incoming;
 use ring::Outgoing;
 pub use setup::set_up;
@@ -14,6 +16,7 @@ pub use setup::set_up;
 // The most queues in operation.
 pub const MAX_QUEUES: u32 = 64;
 
+#[repr(C)]
 pub struct Interface {
     pub settings: Settings,
     pub incoming: Incoming,

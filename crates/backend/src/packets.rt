@@ -1,9 +1,14 @@
 // The packet question of an interface.
 ghost use mathlib.Core.Path.{_≡_};
-ghost use Rattle.steering.specs.Steering.{choiceOf};
+ghost use mathlib.Core.Bool.{true};
+ghost use lib.ListN.{take};
+ghost use Rattle.messages.specs.Settings.{isListed};
+ghost use Rattle.steering.specs.Steering.{choiceOf, steered};
 ghost use Rattle.backend.specs.States.{Good, steeredBy};
 use crate::Interface;
+use messages::MAX_ENTRIES;
 use steering::Steered;
+use toeplitz::KEY_LENGTH;
 
 // The type, hash and queue of a packet under the settings of the interface.
 pub fn steer(interface: Interface, packet: &[u8]) -> Steered
@@ -14,6 +19,20 @@ pub fn steer(interface: Interface, packet: &[u8]) -> Steered
     let key = settings.key;
     let mapping = settings.mapping;
     let entries = mapping.entries;
-    let count = mapping.count as usize;
-    steering::steer(settings.flags, &key, &entries[0..count], packet)
+    steer_in_place(settings.flags, &key, &entries, mapping.count, packet)
+}
+
+// The same for an interface whose key and mapping are lent: nothing is copied.
+pub fn steer_in_place(
+    flags: u8,
+    key: &[u8; KEY_LENGTH],
+    entries: &[u8; MAX_ENTRIES],
+    count: u8,
+    packet: &[u8],
+) -> Steered
+    requires { ⌜ isListed count ≡ true ⌝ }
+    ensures { λ r. ⌜ choiceOf r ≡ steered flags (now (key .entry)) (take count (now (entries .entry))) (now (packet .entry)) ⌝ }
+{
+    let table = &entries[..];
+    steering::steer(flags, key, &table[0..count as usize], packet)
 }

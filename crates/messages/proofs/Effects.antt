@@ -1,7 +1,7 @@
 -- What a request leaves, by its status: on a nonzero one the settings as before, on success its own effect.
 -- Assumes nothing.
 use mathlib.Core.Path.{_≡_, refl, ap, _∙_}
-use mathlib.Core.List.{List, []}
+use mathlib.Core.List.{List}
 use mathlib.Core.Bool.{Bool, true, false, cond}
 use Prim.Native.Nat.{ℕ, suc, _/_}
 use lib.Dec.{eqb, eqb·suc-zero}
@@ -55,11 +55,6 @@ replaced-queues setFlags s n p = refl
 replaced-queues setKey s n p = refl
 replaced-queues setMapping s n p = refl
 replaced-queues none s n p = refl
-
--- a get flags has no payload to look at
-pub no-payload : (s : Settings) (n : ℕ) (p : List ℕ) → carriedBy getFlags s n [] ≡ carriedBy getFlags s n p
-unfolding carriedBy statusOf replaced
-no-payload s n p = refl
 
 module _ (s : Settings) (n : ℕ) (p : List ℕ) where
   pub carried-flags : statusOf getFlags (s .queues) n p ≡ success → answeredFlags s ≡ carriedBy getFlags s n p

@@ -6,7 +6,7 @@ use Prim.Native.Nat.{ℕ}
 use lib.Dec.{eqb}
 use borrow.Author.Tests.{eqb-true, eqb-false}
 use Rattle.messages.specs.Wire.{getFlagsType, setFlagsType, setKeyType, setMappingType}
-use Rattle.messages.specs.Requests.{Request, getFlags, setFlags, setKey, setMapping, none, requestOf}
+use Rattle.messages.specs.Requests.{Request, getFlags, setFlags, setKey, setMapping, none, requestOf, carriesFlags}
 
 by-test : (P : Request → Type 0) (t k : ℕ) (r other : Request) → (t ≡ k → P r) → ((t ≡ k → ⊥) → P other) → P (cond (eqb t k) r other)
 by-test P t k r other is not = by (eqb t k) refl
@@ -29,3 +29,8 @@ request-cases P t two three four five other =
     by-test P t setFlagsType _ _ three (λ n3.
     by-test P t setKeyType _ _ four (λ n4.
     by-test P t setMappingType _ _ five (λ n5. other n2 n3 n4 n5))))
+
+-- a type other than get flags has no flags in its ack
+pub no-flags : (t status : ℕ) → (t ≡ getFlagsType → ⊥) → carriesFlags (requestOf t) status ≡ false
+no-flags t status not =
+    request-cases (λ (r : Request). carriesFlags r status ≡ false) t (λ two. absurd (not two)) (λ _. refl) (λ _. refl) (λ _. refl) (λ _ _ _ _. refl)

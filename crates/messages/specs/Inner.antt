@@ -4,11 +4,36 @@ use mathlib.Core.Path.{_≡_}
 use mathlib.Core.List.{List}
 use mathlib.Core.Bool.{true}
 use Prim.Native.Nat.{ℕ}
-use Rattle.messages.specs.Settings.{mappingOf}
-use Rattle.messages.specs.Requests.{entriesIn, allBelow}
+use Rattle.messages.specs.Settings.{mappingOf, settingsOf}
+use Rattle.messages.specs.Requests.{Request, getFlags, setFlags, setKey, setMapping, entriesIn, allBelow, ackPayload, ackStored, carriedBy}
+use Rattle.messages.specs.declared.Settings.{Settings}
 use Rattle.messages.specs.declared.table.Built.{Built}
 
 -- whether the first n entries of the payload are all below q, and if so the mapping of them
 pub record Builds (q n : ℕ) (p : List ℕ) (r : Built) : Type 0 where
   pub passed : r .passed ≡ allBelow q (entriesIn n p)
   pub mapping : r .passed ≡ true → r .mapping ≡ mappingOf (entriesIn n p)
+
+-- a request of size n with payload p has this status and leaves these settings: with the ack of the status they are what
+-- carrying it out gives
+abbrev pub Leaves : Request → Settings → ℕ → List ℕ → ℕ → Settings → Type 0
+Leaves r s n p status left = record { settings = left; ack = ackStored (ackPayload r status) } ≡ carriedBy r s n p
+
+-- the same of each request by the setting that it may replace: whatever the others are, they stay
+abbrev pub GetsFlags : ℕ → ℕ → Type 0
+GetsFlags n status = (s : Settings) (p : List ℕ) → Leaves getFlags s n p status s
+
+abbrev pub SetsFlags : ℕ → List ℕ → ℕ → ℕ → ℕ → Type 0
+SetsFlags n p flags status left =
+    (q : ℕ) (key entries : List ℕ) (count : ℕ)
+    → Leaves setFlags (settingsOf q flags key entries count) n p status (settingsOf q left key entries count)
+
+abbrev pub SetsKey : ℕ → List ℕ → List ℕ → ℕ → List ℕ → Type 0
+SetsKey n p key status left =
+    (q flags : ℕ) (entries : List ℕ) (count : ℕ)
+    → Leaves setKey (settingsOf q flags key entries count) n p status (settingsOf q flags left entries count)
+
+abbrev pub SetsMapping : ℕ → ℕ → List ℕ → List ℕ → ℕ → ℕ → List ℕ → ℕ → Type 0
+SetsMapping q n p entries count status leftEntries leftCount =
+    (flags : ℕ) (key : List ℕ)
+    → Leaves setMapping (settingsOf q flags key entries count) n p status (settingsOf q flags key leftEntries leftCount)

@@ -123,6 +123,10 @@ answered s status = record { settings = s; ack = ackStored (statusPayload status
 abbrev pub answeredFlags : Settings → Carried
 answeredFlags s = record { settings = s; ack = ackStored (flagsPayload allFlags) }
 
+-- settings with an ack's octets and length
+abbrev pub carriedAs : Settings → List ℕ → ℕ → Carried
+carriedAs s octets size = record { settings = s; ack = record { octets = octets; length = size } }
+
 -- a request carried out, and a message of a type, size and kept payload
 unfoldable pub carriedBy : Request → Settings → ℕ → List ℕ → Carried
 carriedBy r s n p =

@@ -41,6 +41,11 @@ tableOf m = take (m .count) (m .entries)
 abbrev pub mappingOf : List ℕ → Mapping
 mappingOf table = record { entries = table ++ replicate (maxEntries - length table) 0; count = length table }
 
+-- settings by their parts: queues, flags, key, entries and count
+abbrev pub settingsOf : ℕ → ℕ → List ℕ → List ℕ → ℕ → Settings
+settingsOf queues flags key entries count =
+    record { queues = queues; flags = flags; key = key; mapping = record { entries = entries; count = count } }
+
 -- at setup: flags 0, key all zero, mapping of one entry, 0
 abbrev pub settingsAtSetup : ℕ → Settings
 settingsAtSetup queues =

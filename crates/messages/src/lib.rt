@@ -7,6 +7,7 @@ mod table;
 ghost use mathlib.Core.Path.{_≡_};
 ghost use Rattle.messages.specs.Settings.{settingsAtSetup};
 pub use requests::carry_out;
+pub use requests::carry_out_in_place;
 pub use table::is_power_of_two;
 use toeplitz::KEY_LENGTH;
 
@@ -49,12 +50,14 @@ pub const MAX_PAYLOAD: usize = 1024;
 pub const MAX_ACK: usize = 24;
 
 // A mapping table: the queue of each entry. Octets of the array behind the table are 0.
+#[repr(C)]
 pub struct Mapping {
     pub entries: [u8; MAX_ENTRIES],
     pub count: u8,
 }
 
 // The settings of an interface. The queue count is the host's; the guest's requests replace the others.
+#[repr(C)]
 pub struct Settings {
     pub queues: u8,
     pub flags: u8,

@@ -1,17 +1,22 @@
-// Requests judged and carried out: for each request its checks in order, and its effect only after the last.
+// Requests judged and carried out: for each request its checks in order, and its effect only after the last. The
+// work is done in place, on the settings as they are lent, so that a request copies only what it replaces.
 ghost use mathlib.Core.Path.{_≡_};
-ghost use mathlib.Core.List.{[]};
 ghost use lib.ListN.{length};
 ghost use Rattle.messages.specs.Wire.{maxPayload};
-ghost use Rattle.messages.specs.Requests.{getFlags, setFlags, setKey, setMapping, answered, carriedBy, carriedOut};
+ghost use Rattle.messages.specs.Settings.{settingsOf};
+ghost use Rattle.messages.specs.Requests.{requestOf, ackPayload, ackStored, carriedAs, carriedOut};
+ghost use Rattle.messages.specs.Inner.{Leaves, GetsFlags, SetsFlags, SetsKey, SetsMapping};
 use crate::ALL_FLAGS;
+use crate::Ack;
 use crate::BUFFER_OVERFLOW;
 use crate::Carried;
 use crate::FIELD;
 use crate::GET_FLAGS;
 use crate::INVALID_PARAMETER;
+use crate::MAX_ACK;
 use crate::MAX_ENTRIES;
 use crate::MAX_PAYLOAD;
+use crate::Mapping;
 use crate::NOT_SUPPORTED;
 use crate::SET_FLAGS;
 use crate::SET_KEY;
@@ -33,103 +38,169 @@ const MOST_ENTRIES: u32 = MAX_ENTRIES as u32;
 pub fn carry_out(settings: Settings, kind: u32, size: u32, payload: &[u8; MAX_PAYLOAD]) -> Carried
     ensures { λ r. ⌜ r ≡ carriedOut settings kind size (now (payload .entry)) ⌝ }
 {
-    if kind == GET_FLAGS {
-        return get_flags(settings, size);
-    }
-    if kind == SET_FLAGS {
-        return set_flags(settings, size, payload);
-    }
-    if kind == SET_KEY {
-        return set_key(settings, size, payload);
-    }
-    if kind == SET_MAPPING {
-        return set_mapping(settings, size, payload);
-    }
-    answer(settings, NOT_SUPPORTED)
-}
-
-// The settings, with the ack of a status.
-fn answer(settings: Settings, status: u8) -> Carried
-    ensures { λ r. ⌜ r ≡ answered settings status ⌝ }
-{
-    Carried {
-        settings,
-        ack: acks::with_status(status),
-    }
-}
-
-fn get_flags(settings: Settings, size: u32) -> Carried
-    ensures { λ r. ⌜ r ≡ carriedBy getFlags settings size [] ⌝ }
-{
-    if size != 0 {
-        return answer(settings, INVALID_PARAMETER);
-    }
-    // What is supported, whatever is set.
-    Carried {
-        settings,
-        ack: acks::with_flags(ALL_FLAGS),
-    }
-}
-
-fn set_flags(settings: Settings, size: u32, payload: &[u8]) -> Carried
-    requires { ⌜ length (now payload) ≡ maxPayload ⌝ }
-    ensures { λ r. ⌜ r ≡ carriedBy setFlags settings size (now (payload .entry)) ⌝ }
-{
-    if size != FIELD_SIZE {
-        return answer(settings, INVALID_PARAMETER);
-    }
-    let flags = octets::read_u64(payload, 0);
-    if flags > ALL_FLAGS as u64 {
-        return answer(settings, INVALID_PARAMETER);
-    }
-    let mut new = settings;
-    new.flags = flags as u8;
-    answer(new, SUCCESS)
-}
-
-fn set_key(settings: Settings, size: u32, payload: &[u8]) -> Carried
-    requires { ⌜ length (now payload) ≡ maxPayload ⌝ }
-    ensures { λ r. ⌜ r ≡ carriedBy setKey settings size (now (payload .entry)) ⌝ }
-{
-    if size != KEY_SIZE {
-        return answer(settings, INVALID_PARAMETER);
-    }
-    let mut key = [0u8; KEY_LENGTH];
-    octets::copy(&mut key, &payload[0..KEY_LENGTH]);
-    let mut new = settings;
-    new.key = key;
-    answer(new, SUCCESS)
-}
-
-fn set_mapping(settings: Settings, size: u32, payload: &[u8]) -> Carried
-    requires { ⌜ length (now payload) ≡ maxPayload ⌝ }
-    ensures { λ r. ⌜ r ≡ carriedBy setMapping settings size (now (payload .entry)) ⌝ }
-{
-    if size % FIELD_SIZE != 0 {
-        return answer(settings, INVALID_PARAMETER);
-    }
-    let count = size / FIELD_SIZE;
-    if !table::is_power_of_two(count) {
-        return answer(settings, INVALID_PARAMETER);
-    }
-    if count > MOST_ENTRIES {
-        return answer(settings, BUFFER_OVERFLOW);
-    }
+    let mapping = settings.mapping;
     let queues = settings.queues;
-    let built = table::build(payload, count as u8, queues);
-    if !built.passed {
-        return answer(settings, INVALID_PARAMETER);
-    }
-    let flags = settings.flags;
-    let key = settings.key;
-    let mapping = built.mapping;
-    answer(
-        Settings {
+    let mut flags = settings.flags;
+    let mut key = settings.key;
+    let mut entries = mapping.entries;
+    let mut count = mapping.count;
+    let mut octets = [0u8; MAX_ACK];
+    let mut length = 0;
+    carry_out_in_place(
+        queues,
+        &mut flags,
+        &mut key,
+        &mut entries,
+        &mut count,
+        kind,
+        size,
+        payload,
+        &mut octets,
+        &mut length,
+    );
+    Carried {
+        settings: Settings {
             queues,
             flags,
             key,
-            mapping,
+            mapping: Mapping { entries, count },
         },
-        SUCCESS,
-    )
+        ack: Ack { octets, length },
+    }
+}
+
+// The same on settings whose parts are lent: the effect goes into them, and the ack into what is lent for it.
+pub fn carry_out_in_place(
+    queues: u8,
+    flags: &mut u8,
+    key: &mut [u8; KEY_LENGTH],
+    entries: &mut [u8; MAX_ENTRIES],
+    count: &mut u8,
+    kind: u32,
+    size: u32,
+    payload: &[u8; MAX_PAYLOAD],
+    ack: &mut [u8; MAX_ACK],
+    ack_length: &mut usize,
+)
+    ensures { λ _. ⌜ carriedAs (settingsOf queues (now (flags .exit)) (now (key .exit)) (now (entries .exit)) (now (count .exit)))
+        (now (ack .exit)) (now («ack_length» .exit))
+        ≡ carriedOut (settingsOf queues (now (flags .entry)) (now (key .entry)) (now (entries .entry)) (now (count .entry)))
+        kind size (now (payload .entry)) ⌝ }
+{
+    let status = apply(queues, flags, key, entries, count, kind, size, payload);
+    let answer = answer(kind, status);
+    let octets = answer.octets;
+    *ack = octets;
+    *ack_length = answer.length;
+}
+
+// Judges the request, puts its effect into the settings if it passes, and answers its status.
+fn apply(
+    queues: u8,
+    flags: &mut u8,
+    key: &mut [u8; KEY_LENGTH],
+    entries: &mut [u8; MAX_ENTRIES],
+    count: &mut u8,
+    kind: u32,
+    size: u32,
+    payload: &[u8; MAX_PAYLOAD],
+) -> u8
+    ensures { λ r. ⌜ Leaves (requestOf kind) (settingsOf queues (now (flags .entry)) (now (key .entry)) (now (entries .entry)) (now (count .entry)))
+        size (now (payload .entry)) r (settingsOf queues (now (flags .exit)) (now (key .exit)) (now (entries .exit)) (now (count .exit))) ⌝ }
+{
+    if kind == GET_FLAGS {
+        return get_flags(size);
+    }
+    if kind == SET_FLAGS {
+        return set_flags(flags, size, payload);
+    }
+    if kind == SET_KEY {
+        return set_key(key, size, payload);
+    }
+    if kind == SET_MAPPING {
+        return set_mapping(queues, entries, count, size, payload);
+    }
+    NOT_SUPPORTED
+}
+
+// The ack to a request of this type, with its status.
+fn answer(kind: u32, status: u8) -> Ack
+    ensures { λ r. ⌜ r ≡ ackStored (ackPayload (requestOf kind) status) ⌝ }
+{
+    if kind == GET_FLAGS && status == SUCCESS {
+        // What is supported, whatever is set.
+        return acks::with_flags(ALL_FLAGS);
+    }
+    acks::with_status(status)
+}
+
+// Each request by itself answers its status, and changes its own setting only when every check has passed.
+fn get_flags(size: u32) -> u8
+    ensures { λ r. ⌜ GetsFlags size r ⌝ }
+{
+    if size != 0 {
+        return INVALID_PARAMETER;
+    }
+    SUCCESS
+}
+
+fn set_flags(flags: &mut u8, size: u32, payload: &[u8]) -> u8
+    requires { ⌜ length (now payload) ≡ maxPayload ⌝ }
+    ensures { λ r. ⌜ SetsFlags size (now (payload .entry)) (now (flags .entry)) r (now (flags .exit)) ⌝ }
+{
+    if size != FIELD_SIZE {
+        return INVALID_PARAMETER;
+    }
+    let value = octets::read_u64(payload, 0);
+    if value > ALL_FLAGS as u64 {
+        return INVALID_PARAMETER;
+    }
+    *flags = value as u8;
+    SUCCESS
+}
+
+fn set_key(key: &mut [u8; KEY_LENGTH], size: u32, payload: &[u8]) -> u8
+    requires { ⌜ length (now payload) ≡ maxPayload ⌝ }
+    ensures { λ r. ⌜ SetsKey size (now (payload .entry)) (now (key .entry)) r (now (key .exit)) ⌝ }
+{
+    if size != KEY_SIZE {
+        return INVALID_PARAMETER;
+    }
+    // By an array of its own, of which the compiler knows that it lies apart from the payload: so the octets are
+    // moved many at a time.
+    let mut new = [0u8; KEY_LENGTH];
+    octets::copy(&mut new, &payload[0..KEY_LENGTH]);
+    *key = new;
+    SUCCESS
+}
+
+fn set_mapping(
+    queues: u8,
+    entries: &mut [u8; MAX_ENTRIES],
+    count: &mut u8,
+    size: u32,
+    payload: &[u8],
+) -> u8
+    requires { ⌜ length (now payload) ≡ maxPayload ⌝ }
+    ensures { λ r. ⌜ SetsMapping queues size (now (payload .entry)) (now (entries .entry)) (now (count .entry)) r (now (entries .exit)) (now (count .exit)) ⌝ }
+{
+    if size % FIELD_SIZE != 0 {
+        return INVALID_PARAMETER;
+    }
+    let new_count = size / FIELD_SIZE;
+    if !table::is_power_of_two(new_count) {
+        return INVALID_PARAMETER;
+    }
+    if new_count > MOST_ENTRIES {
+        return BUFFER_OVERFLOW;
+    }
+    let built = table::build(payload, new_count as u8, queues);
+    if !built.passed {
+        return INVALID_PARAMETER;
+    }
+    let mapping = built.mapping;
+    let table = mapping.entries;
+    *entries = table;
+    *count = mapping.count;
+    SUCCESS
 }

@@ -1,16 +1,44 @@
 // Octets in slices: a copy, and little-endian numbers at a place. What more than one crate needs, and no more.
 ghost use mathlib.Core.Path.{_≡_};
 ghost use Prim.Native.Nat.{_+_, _*_, _≤_};
-ghost use lib.ListN.{length};
+ghost use mathlib.Core.List.{_++_};
+ghost use lib.ListN.{length, take, drop};
 ghost use lib.Seq.{sets};
 ghost use Rattle.octets.specs.Numbers.{numberAt, octetsOf};
 
-// Copies src over dst, which is as long.
+// Octets of a word.
+const WORD: usize = 8;
+
+// Copies src over dst, which is as long: a word at a time as far as that goes, and the rest octet by octet. The compiler
+// cannot tell that the two lie apart, and would move short runs by single octets.
 pub fn copy(dst: &mut [u8], src: &[u8])
     requires { ⌜ length (now src) ≡ length (now dst) ⌝ }
     ensures { λ _. ⌜ now (dst .exit) ≡ now (src .entry) ⌝ }
 {
+    let done = copy_words(dst, src);
+    copy_rest(dst, src, done);
+}
+
+// Copies as many octets as whole words have, and answers how many.
+fn copy_words(dst: &mut [u8], src: &[u8]) -> usize
+    requires { ⌜ length (now src) ≡ length (now dst) ⌝ }
+    ensures { λ r. ⌜ (now (dst .exit) ≡ take r (now (src .entry)) ++ drop r (now (dst .entry))) × (r ≤ length (now (src .entry))) ⌝ }
+{
     let mut i = 0;
+    while src.len() - i >= WORD {
+        write_u64(dst, i, read_u64(src, i));
+        i += WORD;
+    }
+    i
+}
+
+// Copies the octets from `from` on, of which those before are there already.
+fn copy_rest(dst: &mut [u8], src: &[u8], from: usize)
+    requires { ⌜ (length (now src) ≡ length (now dst)) × (from ≤ length (now src)) ⌝ }
+    requires { ⌜ now dst ≡ take from (now src) ++ drop from (now dst) ⌝ }
+    ensures { λ _. ⌜ now (dst .exit) ≡ now (src .entry) ⌝ }
+{
+    let mut i = from;
     while i < src.len() {
         dst[i] = src[i];
         i += 1;

@@ -74,12 +74,6 @@ module _ (page : List ℕ) (c : ℕ) where
       let ys = octetsIn requestsAt page (c + a) b in
       rw (octets-add requestsAt page c a b) (received-append xs ys m ∙ ap (received ys) e ∙ f)
 
--- of a message that is not whole, no more octets are there than its header can say
-pub taken-small : (m : Message) → AreOctets (m .header) → whole m ≡ false → m .taken < headerSize + 2 ^ 32
-taken-small m o waiting =
-    let more = leb-false (messageLength (m .header)) (m .taken) waiting in
-    omega (arith, number-four (m .header) 4, o 4, o 5, o 6, o 7)
-
 -- of n octets, `some` go into the header of m, which is then h, and `more` into the payload
 module _ (n : ℕ) (m : Message) (h : List ℕ) (some more : ℕ) (es : some ≡ headerMoved (m .taken) n) where
   module _ (em : more ≡ payloadMoved h (m .taken + some) (n - some)) where

@@ -11,6 +11,11 @@ use Rattle.ring.specs.Page.{requestsAt, advanced, octetsIn}
 use Rattle.ring.specs.declared.Message.{Message}
 use Rattle.ring.specs.declared.Incoming.{Incoming}
 
+-- the reading side by its parts
+abbrev pub incomingOf : List ℕ → List ℕ → ℕ → ℕ → Incoming
+incomingOf header payload taken reqCons =
+    record { message = record { header = header; payload = payload; taken = taken }; «req_cons» = reqCons }
+
 -- the length of the message with this header, and whether all its octets are there. A part of a header cannot meet this
 abbrev pub messageLength : List ℕ → ℕ
 messageLength header = headerSize + sizeIn header

@@ -8,6 +8,10 @@ use Rattle.messages.specs.Requests.{maxAck}
 use Rattle.ring.specs.Page.{advanced}
 use Rattle.ring.specs.declared.Outgoing.{Outgoing}
 
+-- the writing side by its parts
+abbrev pub outgoingOf : List ℕ → ℕ → ℕ → ℕ → Outgoing
+outgoingOf ack size written rspProd = record { ack = ack; length = size; written = written; «rsp_prod» = rspProd }
+
 -- how many octets of the ack are still owed, and how many of them fit into `room` octets
 abbrev pub owed : Outgoing → ℕ
 owed o = o .length - o .written

@@ -31,6 +31,7 @@ pub const REQUESTS: usize = 16;
 pub const RESPONSES: usize = 1040;
 
 // What has been read of a message: its header, the first 1,024 octets of its payload, and how many octets in all.
+#[repr(C)]
 pub struct Message {
     pub header: [u8; HEADER],
     pub payload: [u8; MAX_PAYLOAD],
@@ -38,6 +39,7 @@ pub struct Message {
 }
 
 // The reading side of a ring: the present message, and the count of octets read.
+#[repr(C)]
 pub struct Incoming {
     pub message: Message,
     pub req_cons: u32,
@@ -45,6 +47,7 @@ pub struct Incoming {
 
 // The writing side of a ring: an ack of `length` octets, of which `written` are on the page, and the count of
 // octets written.
+#[repr(C)]
 pub struct Outgoing {
     pub ack: [u8; MAX_ACK],
     pub length: usize,

@@ -2,15 +2,13 @@
 // it is whole or no octet is left. Octets of a following message stay.
 ghost use mathlib.Core.Path.{_≡_};
 ghost use mathlib.Core.Bool.{false};
-ghost use Prim.Native.Nat.{_-_, _≤_};
+ghost use Prim.Native.Nat.{_+_, _-_, _^_, _≤_, _<_};
 ghost use lib.ListN.{length};
 ghost use lib.Seq.{sets};
 ghost use Rattle.messages.specs.Wire.{headerSize, maxPayload};
 ghost use Rattle.ring.specs.Page.{pageSize, areaSize, requestsAt, octetsIn};
-ghost use Rattle.ring.specs.Reading.{messageLength, isWhole, receivedFrom};
+ghost use Rattle.ring.specs.Reading.{messageLength, isWhole, incomingOf, receivedFrom};
 ghost use Rattle.ring.specs.Inner.{headerMoved, payloadMoved};
-use crate::Incoming;
-use crate::Message;
 use crate::REQUESTS;
 use crate::areas::least;
 use crate::areas::read_area;
@@ -33,40 +31,38 @@ pub fn is_whole(header: &[u8; HEADER], taken: u64) -> bool
 // The length of the message with this header.
 fn message_length(header: &[u8]) -> u64
     requires { ⌜ length (now header) ≡ headerSize ⌝ }
-    ensures { λ r. ⌜ r ≡ messageLength (now (header .entry)) ⌝ }
+    ensures { λ r. ⌜ (r ≡ messageLength (now (header .entry))) × (r < 2 ^ 33) ⌝ }
 {
     HEADER_OCTETS + octets::read_u32(header, SIZE_AT) as u64
 }
 
-// Reads the octets of the present message that stand among the `unread` ones.
-pub fn receive(page: &[u8], incoming: Incoming, unread: u32) -> Incoming
-    requires { ⌜ (length (now page) ≡ pageSize) × (unread ≤ areaSize) ⌝ }
-    requires { ⌜ isWhole (incoming .message .header) (incoming .message .taken) ≡ false ⌝ }
-    ensures { λ r. ⌜ r ≡ receivedFrom (now (page .entry)) incoming unread ⌝ }
+// Reads the octets of the present message that stand among the `unread` ones, and counts them.
+pub fn receive(
+    page: &[u8],
+    header: &mut [u8; HEADER],
+    payload: &mut [u8; MAX_PAYLOAD],
+    taken: &mut u64,
+    req_cons: &mut u32,
+    unread: u32,
+)
+    requires { ⌜ (length (now page) ≡ pageSize) × (unread ≤ areaSize) × (isWhole (now header) (now taken) ≡ false) ⌝ }
+    ensures { λ _. ⌜ incomingOf (now (header .exit)) (now (payload .exit)) (now (taken .exit)) (now («req_cons» .exit))
+        ≡ receivedFrom (now (page .entry)) (incomingOf (now (header .entry)) (now (payload .entry)) (now (taken .entry)) (now («req_cons» .entry))) unread ⌝ }
 {
-    let message = incoming.message;
-    let mut header = message.header;
-    let mut payload = message.payload;
-    let taken = message.taken;
-    let count = incoming.req_cons;
-    let some = read_header(page, &mut header, taken, count, unread as u64);
+    let before = *taken;
+    let count = *req_cons;
+    let some = read_header(page, header, before, count, unread as u64);
     let more = read_payload(
         page,
-        &header,
-        &mut payload,
-        taken + some,
+        &header[..],
+        payload,
+        before + some,
         std::num::wrapping_add_u32(count, some as u32),
         unread as u64 - some,
     );
     let moved = some + more;
-    Incoming {
-        message: Message {
-            header,
-            payload,
-            taken: taken + moved,
-        },
-        req_cons: std::num::wrapping_add_u32(count, moved as u32),
-    }
+    *taken = before + moved;
+    *req_cons = std::num::wrapping_add_u32(count, moved as u32);
 }
 
 // Reads what is missing of the header, as far as it stands among the n octets from `count` on, and answers how many
@@ -103,6 +99,7 @@ fn read_payload(
     requires { ⌜ (n ≤ areaSize) × (taken ≤ messageLength (now header)) ⌝ }
     ensures { λ r. ⌜ r ≡ payloadMoved (now (header .entry)) taken n ⌝ }
     ensures { λ r. ⌜ now (payload .exit) ≡ sets (now (payload .entry)) (taken - headerSize) (octetsIn requestsAt (now (page .entry)) count r) ⌝ }
+    ensures { λ r. ⌜ taken + r < 2 ^ 33 ⌝ }
 {
     if taken < HEADER_OCTETS {
         return 0;

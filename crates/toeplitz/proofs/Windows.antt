@@ -1,17 +1,17 @@
--- Windows of a key: from one to the next, and from four octets.
+-- Windows of a key: from one to the next, from four octets, and with bits of the next octet drawn in.
 -- Assumes nothing.
 use mathlib.Core.Path.{_≡_, refl, sym, ap, ap₂, _∙_}
 use mathlib.Core.List.{List}
-use Prim.Native.Nat.{ℕ, zero, suc, _+_, _*_, _/_, _%_, _^_, _-_, _<_}
+use Prim.Native.Nat.{ℕ, zero, suc, _+_, _*_, _/_, _%_, _^_, _-_, _≤_, _<_}
 use native.Mathlib.Nat.{add-zero, add-suc, add-assoc, mul-assoc, pow-suc}
 use native.Mathlib.Numerals.{add-one}
 use native.Mathlib.Omega.{arith}
 use lib.ListN.{getD}
-use lib.Pow.{shr-shr}
+use lib.Pow.{shr-shr, shr-lt, mod-pow-add, mod-mod-pow, high, low}
 use lib.Bits.{bitXor}
 use Rattle.octets.specs.Numbers.{AreOctets}
 use Rattle.toeplitz.specs.Hash.{bitAt, bitsAt, windowAt, whenSet, termAt, xorBelow}
-use Rattle.toeplitz.specs.Inner.{fourOctets, Reached}
+use Rattle.toeplitz.specs.Inner.{bitOf, drawnIn, fourOctets}
 use Rattle.toeplitz.proofs.Linear.{bitAt-lt}
 
 shift-suc : (a k : ℕ) → a * 2 ^ suc k ≡ a * 2 ^ k * 2
@@ -41,17 +41,22 @@ window-next key i =
     let next : bitAt key (i + 1 + 31) ≡ bitAt key (i + 32) = ap (bitAt key) (omega arith) in
     omega (arith, bits-append key i 1 31, bits-lt key (i + 1) 31, bits-more key (i + 1) 31, next)
 
+-- bit j of an octet, which has k bits below it
+pub bit-of-octet : (xs : List ℕ) (a j k : ℕ) → j + k ≡ 7 → bitAt xs (a * 8 + j) ≡ getD xs a 0 / 2 ^ k % 2
+bit-of-octet xs a j k e =
+    let div : (a * 8 + j) / 8 ≡ a = omega arith in
+    let rem : 7 - (a * 8 + j) % 8 ≡ k = omega arith in
+    ap₂ (λ (x y : ℕ). getD xs x 0 / 2 ^ y % 2) div rem
+
 octet-top : (xs : List ℕ) (a n k : ℕ) → n + k ≡ 8 → getD xs a 0 < 256 → bitsAt xs (a * 8) n ≡ getD xs a 0 / 2 ^ k
 unfolding bitsAt
 octet-top xs a zero k e h =
     let k8 : k ≡ 8 = omega arith in
     rw k8 (omega arith)
 octet-top xs a (suc n) k e h =
-    let div : (a * 8 + n) / 8 ≡ a = omega arith in
-    let rem : 7 - (a * 8 + n) % 8 ≡ k = omega arith in
     ap₂ (λ (x y : ℕ). x * 2 + y)
     (octet-top xs a n (k + 1) (omega arith) h ∙ sym (shr-shr (getD xs a 0) k 1))
-    (ap₂ (λ (x y : ℕ). getD xs x 0 / 2 ^ y % 2) div rem)
+    (bit-of-octet xs a n k (omega arith))
     ∙ omega arith
 
 octet : (xs : List ℕ) (a : ℕ) → getD xs a 0 < 256 → bitsAt xs (a * 8) 8 ≡ getD xs a 0
@@ -66,12 +71,52 @@ window-octets xs a h =
     ap (λ (i : ℕ). bitsAt xs i 8) (omega arith) ∙ octet xs (a + n) (h (a + n)) in
     omega (arith, bits-append xs (a * 8) 24 8, bits-append xs (a * 8) 16 8, bits-append xs (a * 8) 8 8, octet xs a (h a), at 1, at 2, at 3)
 
+-- the low i + j digits of a number with the digits b below j
+pub low-digits : (a b i j : ℕ) → b < 2 ^ j → (a * 2 ^ j + b) % 2 ^ (i + j) ≡ a % 2 ^ i * 2 ^ j + b
+low-digits a b i j h =
+    mod-pow-add (a * 2 ^ j + b) i j ∙ ap₂ (λ (x y : ℕ). x % 2 ^ i * 2 ^ j + y) (high a j h) (low a j h)
+
+-- drawing one bit more is the step to the next window: the top bit goes, and the octet's next bit is drawn in
+drawn-next : (w n j : ℕ) → j < 8 → n < 256 → drawnIn w n (suc j) ≡ drawnIn w n j % 2147483648 * 2 + bitOf n j
+drawn-next w n j h o =
+    let k = 7 - j in
+    let stay : 32 - suc j ≡ k + 24 = omega arith in
+    let stood : 32 - j ≡ 1 + (k + 24) = omega arith in
+    let left : 8 - suc j ≡ k = omega arith in
+    let were : 8 - j ≡ k + 1 = omega arith in
+    rw (stay, stood, left, were) (step k (omega arith))
+  where
+    -- k bits of the octet are left behind the next one
+    step : (k : ℕ) → j + k ≡ 7
+        → w % 2 ^ (k + 24) * 2 ^ suc j + n / 2 ^ k ≡ (w % 2 ^ (1 + (k + 24)) * 2 ^ j + n / 2 ^ (k + 1)) % 2147483648 * 2 + n / 2 ^ k % 2
+    step k e =
+        let v = w % 2 ^ (1 + (k + 24)) in
+        let b = n / 2 ^ (k + 1) in
+        let eight : j + (k + 1) ≡ 8 = omega arith in
+        let places : 31 ≡ k + 24 + j = omega arith in
+        let dropped : (v * 2 ^ j + b) % 2147483648 ≡ w % 2 ^ (k + 24) * 2 ^ j + b =
+        ap (λ (x : ℕ). (v * 2 ^ j + b) % 2 ^ x) places
+        ∙ low-digits v b (k + 24) j (shr-lt j (k + 1) (rw eight o))
+        ∙ ap (λ (x : ℕ). x * 2 ^ j + b) (mod-mod-pow w 1 (k + 24)) in
+        omega (arith, dropped, shift-suc (w % 2 ^ (k + 24)) j, shr-shr n k 1)
+
+-- so the window at a bit of an octet is that at the octet's top bit with the top bits of the next key octet drawn in
+pub window-drawn : (key : List ℕ) (a j : ℕ) → j ≤ 8 → getD key (a + 4) 0 < 256
+    → windowAt key (a * 8 + j) ≡ drawnIn (windowAt key (a * 8)) (getD key (a + 4) 0) j
+unfolding windowAt
+window-drawn key a zero h o = rw add-zero (omega (arith, bits-lt key (a * 8) 32))
+window-drawn key a (suc j) h o =
+    let w = windowAt key (a * 8) in
+    let n = getD key (a + 4) 0 in
+    let next : a * 8 + suc j ≡ a * 8 + j + 1 = omega arith in
+    let place : a * 8 + j + 32 ≡ (a + 4) * 8 + j = omega arith in
+    rw next (window-next key (a * 8 + j))
+    ∙ ap₂ (λ (x y : ℕ). x % 2147483648 * 2 + y) (window-drawn key a j (omega arith) o)
+    (ap (bitAt key) place ∙ bit-of-octet key (a + 4) j (7 - j) (omega arith))
+    ∙ sym (drawn-next w n j (omega arith) o)
+
 -- one input bit more
-pub reached-next : (key input : List ℕ) (i w s w′ b s′ : ℕ) → Reached key input i w s → w′ ≡ windowAt key (i + 1)
-    → b ≡ bitAt input i → s′ ≡ bitXor s (whenSet b w) → Reached key input (i + 1) w′ s′
+pub sum-next : (key input : List ℕ) (i s b w s′ : ℕ) → s ≡ xorBelow (termAt key input) i → b ≡ bitAt input i
+    → w ≡ windowAt key i → s′ ≡ bitXor s (whenSet b w) → s′ ≡ xorBelow (termAt key input) (i + 1)
 unfolding xorBelow termAt
-reached-next key input i w s w′ b s′ r e f g =
-    record {
-      here = e;
-      so-far = rw add-one (g ∙ ap₂ bitXor (r .so-far) (ap₂ whenSet f (r .here)));
-    }
+sum-next key input i s b w s′ r f e g = rw add-one (g ∙ ap₂ bitXor r (ap₂ whenSet f e))

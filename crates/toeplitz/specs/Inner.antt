@@ -2,11 +2,19 @@
 -- Assumes nothing.
 use mathlib.Core.Path.{_≡_}
 use mathlib.Core.List.{List}
-use Prim.Native.Nat.{ℕ, _+_, _*_, _<_}
+use Prim.Native.Nat.{ℕ, _+_, _-_, _*_, _/_, _%_, _^_, _<_}
 use lib.ListN.{getD}
 use Rattle.toeplitz.specs.Hash.{windowAt, termAt, xorBelow}
 use Rattle.toeplitz.specs.declared.directions.Found.{Found}
 use Rattle.toeplitz.specs.declared.directions.Found.the-variants.{At, Nothing}
+
+-- bit j of an octet: bit 0 is the top bit
+abbrev pub bitOf : ℕ → ℕ → ℕ
+bitOf octet j = octet / 2 ^ (7 - j) % 2
+
+-- a window with its top j bits gone and the top j bits of the next key octet drawn in
+abbrev pub drawnIn : ℕ → ℕ → ℕ → ℕ
+drawnIn window next j = window % 2 ^ (32 - j) * 2 ^ j + next / 2 ^ (8 - j)
 
 -- the four octets from octet a on, as a number whose top octet is the first
 abbrev pub fourOctets : List ℕ → ℕ → ℕ

@@ -8,8 +8,8 @@ ghost use Rattle.toeplitz.specs.Inner.{Reached};
 use crate::HashAnswer;
 use crate::KEY_LENGTH;
 use crate::MAX_INPUT;
-use crate::window::bit_at;
-use crate::window::next_window;
+use crate::window::bit_of;
+use crate::window::drawn;
 use crate::window::octet_window;
 
 // The published hash of the input under the key.
@@ -48,22 +48,26 @@ fn hash_of(key: &[u8], input: &[u8]) -> u32
     sum
 }
 
-// The eight input bits of the octet at `at`. Unrolled, the compiled loop loads that octet and the key's
-// next one once each.
+// The eight input bits of the octet at `at`. Each bit's window is drawn from the window at the top bit and the
+// key's next octet, so that none waits for the one before it.
 fn add_octet(key: &[u8], input: &[u8], at: usize, p: Partial) -> Partial
     requires { ⌜ (length (now key) ≡ keyLength) × (at < length (now input)) × (at < maxInput) ⌝ }
     requires { ⌜ Reached (now key) (now input) (at * 8) (p .window) (p .sum) ⌝ }
     ensures { λ r. ⌜ Reached (now (key .entry)) (now (input .entry)) (at * 8 + 8) (r .window) (r .sum) ⌝ }
 {
-    let mut window = p.window;
+    let octet = input[at];
+    let next = key[at + 4];
+    let window = p.window;
     let mut sum = p.sum;
     let mut j: usize = 0;
     while j < 8 {
-        sum = add_window(sum, bit_at(input, at * 8 + j), window);
-        window = next_window(key, window, at * 8 + j);
+        sum = add_window(sum, bit_of(octet, j), drawn(window, next, j));
         j += 1;
     }
-    Partial { window, sum }
+    Partial {
+        window: drawn(window, next, 8),
+        sum,
+    }
 }
 
 // The sum with the window added where the bit is set.

@@ -1,39 +1,20 @@
--- `octets::copy` meets its contract: dst is what it was, with src's first i octets at its start.
+-- `octets::copy` meets its contract: once the words are copied, the rest is.
 -- Assumes nothing.
-use mathlib.Core.Path.{_≡_, refl}
-use mathlib.Core.List.{_++_}
-use Prim.Native.Nat.{_≤_, _-_}
+use mathlib.Core.Path.{_≡_}
 use native.Mathlib.Omega.{arith}
-use lib.ListN.{length, take, drop, length-set}
+use lib.ListN.{length}
 use borrow.Author.Needs.{needs}
-use Rattle.octets.proofs.Copies.{copied-next, copied-all}
+use Rattle.octets.proofs.Copies.{copied-start}
 use Rattle.octets.proofs.copy.Statement.{statement}
 use Rattle.octets.proofs.copy.Tie as tie
 
-abbrev Inv-loop : tie.InvT-loop
-Inv-loop dst₀ src i₀ dst i = (dst ≡ take i src ++ drop i dst₀) × (length dst ≡ length dst₀) × (i ≤ length src)
-
-abbrev μ-loop : tie.MeasureT-loop
-μ-loop dst₀ src i₀ dst i = length src - i
-
-loop-again : tie.Need-loop-again Inv-loop μ-loop
-loop-again c =
-    (copied-next _ _ _ _ (omega arith) (omega arith) (c .before .before .loop .inv .0), simp length-set (omega arith), omega arith)
-
-returns : tie.Need-returns Inv-loop μ-loop
-returns c = copied-all _ _ _ _ (c .before .before .pre) (c .loop-test .left) (c .before .loop .inv .0)
+copy-rest-requires : tie.Need-copy-rest-requires
+copy-rest-requires c κs =
+    let d = c .before .before .before in
+    let a = d .before .before .before .before .args in
+    let e = d .copy-words .ensures in
+    let long : length (a .src .now) ≡ length (d .copy-words .last .0) = search needs in
+    ((long, e .1), rw (e .0) (copied-start (a .dst .now) (a .src .now) (d .copy-words .result) (e .1)))
 
 pub copy-spec : {M : Type 1} → statement M
-copy-spec =
-    tie.close
-    (tie.spec
-    Inv-loop
-    μ-loop
-    (λ c. (refl, refl, search needs))
-    (λ c. omega arith)
-    (λ c. omega arith)
-    (λ c. omega arith)
-    (λ c. omega arith)
-    loop-again
-    (λ c. c .before .loop .inv .1)
-    returns)
+copy-spec = tie.close (tie.spec (λ c κs. search needs) copy-rest-requires (λ c. search needs) (λ c. search needs))

@@ -1,12 +1,21 @@
--- `messages::requests::answer` meets its contract, by that of the ack.
+-- `messages::requests::answer` meets its contract: only a get flags that succeeded is acked with flags.
 -- Assumes nothing.
-use mathlib.Core.Path.{refl}
+use mathlib.Core.Logic.{⊎-elim}
 use borrow.Author.Needs.{needs}
+use Rattle.messages.specs.Requests.{requestOf}
+use Rattle.messages.proofs.Types.{no-flags}
 use Rattle.messages.proofs.requests.answer.Statement.{statement}
 use Rattle.messages.proofs.requests.answer.Tie as tie
 
 returns : tie.Need-returns
-returns c = rw (c .with-status .ensures) refl
+unfolding requestOf
+returns c = rw (c .before .before .if1 .taken, c .before .if2 .taken) (c .with-flags .ensures)
+
+returns-2 : tie.Need-returns-2
+unfolding requestOf
+returns-2 c =
+    let stored = c .with-status .ensures in
+    ⊎-elim (λ refused. rw (refused .0 .taken, refused .1 .left) stored) (λ other. rw (no-flags _ _ (other .left)) stored) (c .before .if1 .came)
 
 pub answer-spec : {M : Type 1} → statement M
-answer-spec = tie.close (tie.spec (λ c κs. search needs) returns)
+answer-spec = tie.close (tie.spec (λ c κs. search needs) returns (λ c κs. search needs) returns-2)

@@ -6,7 +6,7 @@ use Rattle.ring.proofs.receiving.is_whole.Statement.{statement}
 use Rattle.ring.proofs.receiving.is_whole.Tie as tie
 
 returns : tie.Need-returns
-returns c = rw (c .message-length .ensures) refl
+returns c = rw (c .message-length .ensures .0) refl
 
 pub is-whole-spec : {M : Type 1} → statement M
 is-whole-spec = tie.close (tie.spec (λ c κs. search needs) returns)

@@ -1,7 +1,7 @@
 -- `ring::receiving::read_payload` meets its contract: octets behind those that the part lent holds would change nothing.
 -- Assumes nothing.
 use mathlib.Core.Path.{_≡_, refl, sym, ap, _∙_}
-use Prim.Native.Nat.{ℕ, _-_, _≤_, _<_, min}
+use Prim.Native.Nat.{ℕ, _+_, _-_, _^_, _≤_, _<_, min}
 use native.Mathlib.Omega.{arith}
 use borrow.Author.Needs.{needs}
 use borrow.Author.Tests.{lt-ltb, le-ltb}
@@ -17,7 +17,7 @@ returns c =
     let a = c .before .before .before .before .args in
     let short : a .taken < headerSize = omega arith in (
       rw (lt-ltb (a .taken) headerSize short) refl,
-      sym (none-set (a .page .now) (a .count) (a .payload .now) (a .taken - headerSize) 0 refl),
+      (sym (none-set (a .page .now) (a .count) (a .payload .now) (a .taken - headerSize) 0 refl), omega arith),
     )
 
 -- once the least of what is missing and what is there is known
@@ -29,7 +29,13 @@ module _ (d : tie.After-least) where
   moved =
       let a = start .args in
       let long : headerSize ≤ a .taken = omega arith in
-      rw (le-ltb (a .taken) headerSize long) (rw (← d .before .message-length .ensures) (d .least .ensures))
+      rw (le-ltb (a .taken) headerSize long) (rw (← d .before .message-length .ensures .0) (d .least .ensures))
+
+  within : start .args .taken + d .least .result < 2 ^ 33
+  within =
+      let length = d .before .message-length .ensures in
+      let some = start .pre .1 .1 in
+      omega (arith, length .0, length .1, some, d .least .ensures)
 
 returns-2 : tie.Need-returns-2
 returns-2 c =
@@ -39,15 +45,15 @@ returns-2 c =
     let i = a .taken - headerSize in
     let kept = e .least2 .ensures ∙ ap (λ (n : ℕ). min (n - i) (d .least .result)) (sym (start d .pre .0 .2)) in
     let read = c .before .before .read-area .ensures in
-    (moved d, part-read (a .page .now) (a .payload .now) _ (a .count) i (e .least2 .result) (d .least .result) read (omega arith) kept)
+    let placed = part-read (a .page .now) (a .payload .now) _ (a .count) i (e .least2 .result) (d .least .result) read (omega arith) kept in
+    (moved d, (placed, within d))
 
 returns-3 : tie.Need-returns-3
 returns-3 c =
     let d = c .before in
-    let a = start d .args in (
-      moved d,
-      sym (sets-out (a .payload .now) (octetsIn requestsAt (a .page .now) (a .count) (d .least .result)) (a .taken - headerSize) (omega arith)),
-    )
+    let a = start d .args in
+    let read = octetsIn requestsAt (a .page .now) (a .count) (d .least .result) in
+    (moved d, (sym (sets-out (a .payload .now) read (a .taken - headerSize) (omega arith)), within d))
 
 pub read-payload-spec : {M : Type 1} → statement M
 read-payload-spec =

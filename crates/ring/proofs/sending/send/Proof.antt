@@ -6,7 +6,8 @@ use native.Mathlib.Omega.{arith}
 use lib.ListN.{take, drop}
 use borrow.Author.Needs.{needs}
 use Rattle.ring.specs.Page.{responsesAt, put}
-use Rattle.ring.specs.Writing.{fitting, sent}
+use Rattle.ring.specs.Writing.{outgoingOf, fitting, sent}
+use Rattle.ring.specs.declared.Outgoing.{Outgoing}
 use Rattle.ring.proofs.sending.send.Statement.{statement}
 use Rattle.ring.proofs.sending.send.Tie as tie
 
@@ -14,13 +15,13 @@ returns : tie.Need-returns
 returns c =
     let write = c .before .before .before in
     let choose = write .before .before .before .before in
-    let start = choose .before .before .before in
-    let o = start .args .outgoing in
+    let a = choose .before .before .before .before .args in
+    let o : Outgoing = outgoingOf (a .ack .now) (a .size) (a .written .now) (a .rsp-prod .now) in
     let n : ℕ = choose .least .result in
-    let count : o .written + n - o .written ≡ fitting o (start .args .room) = omega (arith, choose .least .ensures) in (
+    let count : o .written + n - o .written ≡ fitting o (a .room) = omega (arith, choose .least .ensures) in (
       rw (c .wrapping-add-u32 .ensures) (ap (sent o) (choose .least .ensures)),
       write .write-area .ensures
-          ∙ ap (λ (k : ℕ). put responsesAt (start .args .page .now) (o .«rsp_prod») (take k (drop (o .written) (o .ack)))) count,
+          ∙ ap (λ (k : ℕ). put responsesAt (a .page .now) (o .«rsp_prod») (take k (drop (o .written) (o .ack)))) count,
     )
 
 pub send-spec : {M : Type 1} → statement M

@@ -1,0 +1,230 @@
+/* The rules of document 01 as a C programmer writes them with care for speed; the hash is that of Xen's header. */
+#include "plain.h"
+
+#include "page.h"
+
+#include <stdbool.h>
+#include <string.h>
+
+#define XEN_NETIF_DEFINE_TOEPLITZ
+#include <xen/io/netif.h>
+
+enum { MESSAGE_ACK = 1, SUPPORTED_FLAGS = 15, PROTOCOL_TCP = 6 };
+
+static uint64_t least(uint64_t a, uint64_t b)
+{
+    return a < b ? a : b;
+}
+
+uint32_t plain_set_up(zwerfen_interface *interface, uint32_t queues)
+{
+    if (queues == 0 || queues > ZWERFEN_MAX_QUEUES)
+        return ZWERFEN_QUEUES;
+    memset(interface, 0, sizeof *interface);
+    interface->settings.queues = (uint8_t)queues;
+    interface->settings.mapping.count = 1;
+    return ZWERFEN_DONE;
+}
+
+/* The next octets of the request area, which go on at its start where they reach its end. */
+static void take(zwerfen_interface *interface, const uint8_t *requests, uint8_t *to, size_t length)
+{
+    size_t at = interface->incoming.req_cons % ZWERFEN_AREA;
+    size_t to_the_end = ZWERFEN_AREA - at;
+    if (length <= to_the_end) {
+        memcpy(to, requests + at, length);
+    } else {
+        memcpy(to, requests + at, to_the_end);
+        memcpy(to + to_the_end, requests, length - to_the_end);
+    }
+}
+
+static void count_taken(zwerfen_interface *interface, size_t length)
+{
+    interface->incoming.req_cons += (uint32_t)length;
+    interface->incoming.message.taken += length;
+}
+
+/* Most headers come whole and in one piece, so they are spared the copy of a length known only at run time. */
+static size_t take_header(zwerfen_interface *interface, const uint8_t *requests, size_t unread)
+{
+    uint8_t *header = interface->incoming.message.header;
+    size_t at = interface->incoming.req_cons % ZWERFEN_AREA;
+    size_t taken = interface->incoming.message.taken;
+    size_t length = least(unread, HEADER - taken);
+    if (length == HEADER && at <= ZWERFEN_AREA - HEADER)
+        memcpy(header, requests + at, HEADER);
+    else
+        take(interface, requests, header + taken, length);
+    count_taken(interface, length);
+    return length;
+}
+
+/* Reads until the request is whole or nothing is left, and says whether it is whole. */
+static bool read_request(zwerfen_interface *interface, const uint8_t *requests, size_t unread)
+{
+    if (interface->incoming.message.taken < HEADER) {
+        unread -= take_header(interface, requests, unread);
+        if (interface->incoming.message.taken < HEADER)
+            return false;
+    }
+    uint64_t size = load32(interface->incoming.message.header + 4);
+    uint64_t taken = interface->incoming.message.taken - HEADER;
+    size_t length = least(unread, size - taken);
+    /* Payload that has no place is counted alone. */
+    if (length > 0 && taken < ZWERFEN_MAX_PAYLOAD)
+        take(interface, requests, interface->incoming.message.payload + taken,
+             least(length, ZWERFEN_MAX_PAYLOAD - taken));
+    count_taken(interface, length);
+    return taken + length == size;
+}
+
+static uint32_t set_flags(zwerfen_settings *settings, uint32_t size, const uint8_t *payload)
+{
+    if (size != FLAGS || load64(payload) > SUPPORTED_FLAGS)
+        return ZWERFEN_INVALID_PARAMETER;
+    settings->flags = payload[0];
+    return ZWERFEN_SUCCESS;
+}
+
+static uint32_t set_key(zwerfen_settings *settings, uint32_t size, const uint8_t *payload)
+{
+    if (size != ZWERFEN_KEY)
+        return ZWERFEN_INVALID_PARAMETER;
+    memcpy(settings->key, payload, ZWERFEN_KEY);
+    return ZWERFEN_SUCCESS;
+}
+
+/* The table is made in a second place and moved in whole, so that a late bad entry leaves no half table. */
+static uint32_t set_mapping(zwerfen_settings *settings, uint32_t size, const uint8_t *payload)
+{
+    uint32_t count = size / ENTRY;
+    if (size % ENTRY != 0 || count == 0 || (count & (count - 1)) != 0)
+        return ZWERFEN_INVALID_PARAMETER;
+    if (count > ZWERFEN_MAX_ENTRIES)
+        return ZWERFEN_BUFFER_OVERFLOW;
+    uint8_t entries[ZWERFEN_MAX_ENTRIES];
+    uint64_t any_bit = 0;
+    uint8_t highest = 0;
+    for (uint32_t i = 0; i < count; i++) {
+        uint64_t entry = load64(payload + i * ENTRY);
+        any_bit |= entry;
+        entries[i] = (uint8_t)entry;
+    }
+    for (uint32_t i = 0; i < count; i++)
+        highest = entries[i] > highest ? entries[i] : highest;
+    /* Both loops can be done on many entries at once; a comparison of each whole entry could not. */
+    if (any_bit > UINT8_MAX || highest >= settings->queues)
+        return ZWERFEN_INVALID_PARAMETER;
+    memcpy(settings->mapping.entries, entries, count);
+    settings->mapping.count = (uint8_t)count;
+    return ZWERFEN_SUCCESS;
+}
+
+static uint32_t judge(zwerfen_settings *settings, uint32_t type, uint32_t size, const uint8_t *payload)
+{
+    switch (type) {
+    case ZWERFEN_GET_FLAGS:
+        return size == 0 ? ZWERFEN_SUCCESS : ZWERFEN_INVALID_PARAMETER;
+    case ZWERFEN_SET_FLAGS:
+        return set_flags(settings, size, payload);
+    case ZWERFEN_SET_KEY:
+        return set_key(settings, size, payload);
+    case ZWERFEN_SET_MAPPING:
+        return set_mapping(settings, size, payload);
+    default:
+        return ZWERFEN_NOT_SUPPORTED;
+    }
+}
+
+static void carry_out(zwerfen_interface *interface)
+{
+    uint32_t type = load32(interface->incoming.message.header);
+    uint32_t size = load32(interface->incoming.message.header + 4);
+    uint32_t status = judge(&interface->settings, type, size, interface->incoming.message.payload);
+    bool has_flags = type == ZWERFEN_GET_FLAGS && status == ZWERFEN_SUCCESS;
+    uint8_t *ack = interface->outgoing.ack;
+    store64(ack, MESSAGE_ACK | (has_flags ? 16ull : 8ull) << 32);
+    store64(ack + HEADER, status);
+    store64(ack + HEADER + 8, SUPPORTED_FLAGS);
+    interface->outgoing.length = has_flags ? HEADER + 16 : HEADER + 8;
+    interface->outgoing.written = 0;
+    interface->incoming.message.taken = 0;
+}
+
+/* Copies by words, as the ack was stored a moment ago: a wider load would have to wait for those stores. */
+static void copy_ack(uint8_t *to, const uint8_t *from, size_t length)
+{
+    for (; length >= 8; length -= 8, to += 8, from += 8)
+        store64(to, load64(from));
+    if (length > 0)
+        memcpy(to, from, length);
+}
+
+/* As much of the ack as fits; it goes on at the start of the response area where it reaches its end. */
+static uint32_t write_ack(zwerfen_interface *interface, uint8_t *responses, size_t room)
+{
+    const uint8_t *ack = interface->outgoing.ack + interface->outgoing.written;
+    size_t length = least(interface->outgoing.length - interface->outgoing.written, room);
+    size_t at = interface->outgoing.rsp_prod % ZWERFEN_AREA;
+    size_t end_part = least(length, ZWERFEN_AREA - at);
+    copy_ack(responses + at, ack, end_part);
+    copy_ack(responses, ack + end_part, length - end_part);
+    interface->outgoing.written += length;
+    interface->outgoing.rsp_prod += (uint32_t)length;
+    return interface->outgoing.written == interface->outgoing.length ? ZWERFEN_ACK_WRITTEN : ZWERFEN_ACK_OWED;
+}
+
+uint32_t plain_event(zwerfen_interface *interface, uint8_t *page, size_t page_length)
+{
+    if (page_length != ZWERFEN_PAGE)
+        return ZWERFEN_PAGE_LENGTH;
+    uint32_t unread = load32(page + REQ_PROD) - interface->incoming.req_cons;
+    if (unread > ZWERFEN_AREA)
+        return ZWERFEN_REQUEST_COUNT;
+    uint32_t unread_by_guest = interface->outgoing.rsp_prod - load32(page + RSP_CONS);
+    if (unread_by_guest > ZWERFEN_AREA)
+        return ZWERFEN_RESPONSE_COUNT;
+
+    uint32_t answer = ZWERFEN_WAITING;
+    bool owed = interface->outgoing.written < interface->outgoing.length;
+    if (!owed && unread > 0 && read_request(interface, page + REQUESTS, unread)) {
+        carry_out(interface);
+        owed = true;
+    }
+    if (owed)
+        answer = write_ack(interface, page + RESPONSES, ZWERFEN_AREA - unread_by_guest);
+    store32(page + REQ_CONS, interface->incoming.req_cons);
+    store32(page + RSP_PROD, interface->outgoing.rsp_prod);
+    return answer;
+}
+
+uint32_t plain_steer(const zwerfen_interface *interface, const uint8_t *packet, size_t packet_length,
+                     uint32_t *hash_type, uint32_t *hash, uint32_t *queue)
+{
+    const zwerfen_settings *settings = &interface->settings;
+    uint32_t plain_type, tcp_type, start, length;
+    bool tcp;
+    *queue = 0;
+    if (packet_length >= 20 && packet[0] == 0x45) {
+        plain_type = ZWERFEN_IPV4, tcp_type = ZWERFEN_IPV4_TCP, start = 12, length = 8;
+        tcp = packet_length >= 24 && packet[9] == PROTOCOL_TCP;
+    } else if (packet_length >= 40 && packet[0] >> 4 == 6) {
+        plain_type = ZWERFEN_IPV6, tcp_type = ZWERFEN_IPV6_TCP, start = 8, length = 32;
+        tcp = packet_length >= 44 && packet[6] == PROTOCOL_TCP;
+    } else {
+        return ZWERFEN_UNHASHED;
+    }
+    if (tcp && settings->flags >> tcp_type & 1) {
+        *hash_type = tcp_type;
+        length += 4;
+    } else if (settings->flags >> plain_type & 1) {
+        *hash_type = plain_type;
+    } else {
+        return ZWERFEN_UNHASHED;
+    }
+    *hash = xen_netif_toeplitz_hash(settings->key, ZWERFEN_KEY, packet + start, length);
+    /* The count is a power of two, so the remainder needs no division. */
+    *queue = settings->mapping.entries[*hash & (settings->mapping.count - 1u)];
+    return ZWERFEN_HASHED;
+}

@@ -1,0 +1,2 @@
+-- The definitions that the contracts of `zwerfen` cite.
+pub mod Answers

@@ -1,0 +1,197 @@
+/*
+ * Zwerfen: the host's end of one network interface's control ring, and receive-side steering.
+ *
+ * A guest that may be hostile shares a page with the host. The library takes the guest's requests from that page, writes
+ * the acks, keeps the interface's settings, and says which queue a packet goes to. It also has the guest's writer of
+ * requests and reader of acks. Every call is proved to meet its contract: no octets on the page, in a message or in a
+ * packet can make it fault or fail to return.
+ *
+ * Memory. The library allocates nothing, keeps nothing between calls and has no global state; of the C library it needs
+ * memcpy and memset alone. Whatever a call is given stays the caller's: it is read or written during the call and not kept.
+ * Calls on different memory may run at the same time. What is written must not overlap anything else that is given.
+ * A pointer may be null where its length is 0, and nowhere else.
+ *
+ * Results. A call answers a number. Values come through the places that are lent for them. Where a call is refused, each
+ * such place, and the interface, page or buffer, is as it was before the call.
+ */
+#ifndef ZWERFEN_H
+#define ZWERFEN_H
+
+#include <stddef.h>
+#include <stdint.h>
+
+#ifdef __cplusplus
+#define ZWERFEN_STATIC_ASSERT(condition, message) static_assert(condition, message)
+extern "C" {
+#else
+#define ZWERFEN_STATIC_ASSERT(condition, message) _Static_assert(condition, message)
+#endif
+
+/* What an event answers. */
+#define ZWERFEN_WAITING 0u     /* no whole request yet */
+#define ZWERFEN_ACK_WRITTEN 1u /* the ack is wholly written */
+#define ZWERFEN_ACK_OWED 2u    /* octets of the ack are still owed: call again once the guest has read some */
+
+/* What the packet question answers. */
+#define ZWERFEN_UNHASHED 0u /* no hash type is used for the packet; its queue is 0 */
+#define ZWERFEN_HASHED 1u   /* type, hash and queue */
+
+/* What every other call answers where it is not refused. */
+#define ZWERFEN_DONE 0u
+
+/* Refusals. */
+#define ZWERFEN_PAGE_LENGTH 3u    /* the page is not 4,096 octets */
+#define ZWERFEN_REQUEST_COUNT 4u  /* req_prod less the own req_cons is above 1,024 */
+#define ZWERFEN_RESPONSE_COUNT 5u /* the own rsp_prod less rsp_cons is above 1,024 */
+#define ZWERFEN_QUEUES 6u         /* 0 queues, or more than 64 */
+#define ZWERFEN_INPUT_LENGTH 7u   /* the hash input is longer than 36 octets */
+#define ZWERFEN_KEY_LENGTH 8u     /* the key is not 40 octets */
+#define ZWERFEN_HASH_TYPE 9u      /* the hash type is above 3 */
+#define ZWERFEN_BUFFER_LENGTH 10u /* the buffer is shorter than the message */
+#define ZWERFEN_VALUE 11u         /* flags above 15, or a mapping whose length is not 1, 2, 4, .. 128 */
+#define ZWERFEN_NOT_AN_ACK 12u    /* not an ack to this request */
+
+/* Hash types. The flag of type t is 1 << t. */
+#define ZWERFEN_IPV4 0u
+#define ZWERFEN_IPV4_TCP 1u
+#define ZWERFEN_IPV6 2u
+#define ZWERFEN_IPV6_TCP 3u
+
+/* Types of a guest's requests, and the statuses of their acks. */
+#define ZWERFEN_GET_FLAGS 2u
+#define ZWERFEN_SET_FLAGS 3u
+#define ZWERFEN_SET_KEY 4u
+#define ZWERFEN_SET_MAPPING 5u
+
+#define ZWERFEN_SUCCESS 0u
+#define ZWERFEN_NOT_SUPPORTED 1u
+#define ZWERFEN_INVALID_PARAMETER 2u
+#define ZWERFEN_BUFFER_OVERFLOW 3u
+
+/* Sizes in octets, and limits. */
+#define ZWERFEN_PAGE 4096u
+#define ZWERFEN_AREA 1024u
+#define ZWERFEN_KEY 40u
+#define ZWERFEN_MAX_INPUT 36u
+#define ZWERFEN_MAX_ENTRIES 128u
+#define ZWERFEN_MAX_PAYLOAD 1024u
+#define ZWERFEN_MAX_ACK 24u
+#define ZWERFEN_MAX_QUEUES 64u
+
+/*
+ * One interface, in the host's memory. zwerfen_set_up fills it and zwerfen_event changes it. A host may read it and may
+ * copy it while no call runs on it; it must not write into it. A state that did not come from these two calls is the one
+ * thing that the library presumes away.
+ */
+typedef struct zwerfen_settings {
+    uint8_t queues;               /* queues in operation, as given at setup */
+    uint8_t flags;                /* the hash types to use */
+    uint8_t key[ZWERFEN_KEY];     /* as the guest wrote it */
+    struct {
+        uint8_t entries[ZWERFEN_MAX_ENTRIES]; /* the queue of each entry */
+        uint8_t count;                        /* how many of them there are */
+    } mapping;
+} zwerfen_settings;
+
+typedef struct zwerfen_interface {
+    zwerfen_settings settings;
+    struct {
+        struct {
+            uint8_t header[8];
+            uint8_t payload[ZWERFEN_MAX_PAYLOAD];
+            uint64_t taken; /* octets read of the present request */
+        } message;
+        uint32_t req_cons;
+    } incoming;
+    struct {
+        uint8_t ack[ZWERFEN_MAX_ACK];
+        size_t length;  /* octets of the ack */
+        size_t written; /* how many of them are on the page */
+        uint32_t rsp_prod;
+    } outgoing;
+} zwerfen_interface;
+
+ZWERFEN_STATIC_ASSERT(sizeof(size_t) == 8, "the library is for 64-bit hosts");
+ZWERFEN_STATIC_ASSERT(sizeof(zwerfen_settings) == 171, "zwerfen_settings has no padding");
+ZWERFEN_STATIC_ASSERT(offsetof(zwerfen_interface, incoming) == 176, "incoming stands behind 5 octets of padding");
+ZWERFEN_STATIC_ASSERT(offsetof(zwerfen_interface, outgoing) == 1224, "outgoing stands behind 4 octets of padding");
+ZWERFEN_STATIC_ASSERT(sizeof(zwerfen_interface) == 1272, "zwerfen_interface is 1,272 octets");
+
+/* ---- The host ---- */
+
+/*
+ * Sets up an interface with this many queues in operation, 1 to 64: no flags, a key of zeros, a mapping of one entry with
+ * queue 0, nothing read and no ack owed. What was in *interface before does not matter.
+ * Refuses by ZWERFEN_QUEUES.
+ */
+uint32_t zwerfen_set_up(zwerfen_interface *interface, uint32_t queues);
+
+/*
+ * One event of the control ring.
+ *
+ * The page is the host's own copy of the shared page: copy it before the call, so that it is still during the call, and
+ * copy back afterwards only what the host owns: req_cons (octets 0 to 3), rsp_prod (12 to 15) and the response area (1040
+ * to 2063). The counts req_cons and rsp_prod on the page are written and never read.
+ *
+ * If ack octets are owed, as many are written as fit, and nothing is read. Otherwise octets of the present request are read
+ * until it is whole or none is left, and a whole request is carried out and its ack written as far as it fits. A request
+ * behind it waits for the next event, so call again after ZWERFEN_ACK_WRITTEN while octets are unread.
+ *
+ * Answers ZWERFEN_WAITING, ZWERFEN_ACK_WRITTEN or ZWERFEN_ACK_OWED. Refuses by ZWERFEN_PAGE_LENGTH, ZWERFEN_REQUEST_COUNT
+ * or ZWERFEN_RESPONSE_COUNT, in this order.
+ */
+uint32_t zwerfen_event(zwerfen_interface *interface, uint8_t *page, size_t page_length);
+
+/*
+ * Type, hash and queue of an IP packet under the settings of the interface: one question, so that the three belong together.
+ * Every queue is below the number of queues in operation. Nothing is copied and nothing is refused.
+ *
+ * Answers ZWERFEN_HASHED, with all three; or ZWERFEN_UNHASHED, with *queue 0, and *hash_type and *hash as they were.
+ */
+uint32_t zwerfen_steer(const zwerfen_interface *interface, const uint8_t *packet, size_t packet_length,
+                       uint32_t *hash_type, uint32_t *hash, uint32_t *queue);
+
+/* ---- The hash, by itself ---- */
+
+/*
+ * The Toeplitz hash of an input of at most 36 octets under a key of 40.
+ * Refuses by ZWERFEN_KEY_LENGTH, then ZWERFEN_INPUT_LENGTH.
+ */
+uint32_t zwerfen_hash(const uint8_t *key, size_t key_length, const uint8_t *input, size_t input_length, uint32_t *hash);
+
+/*
+ * Whether the two directions of every conversation have one hash under the key: whether each input of the hash type has the
+ * hash of its reverse, with addresses and ports exchanged. *meet is then 1. Otherwise *meet is 0, and *bit the lowest bit
+ * that, alone set in an input, gives it another hash than its reverse; bit 0 is the top bit of octet 0. Where *meet is 1,
+ * *bit is as it was.
+ * Refuses by ZWERFEN_KEY_LENGTH, then ZWERFEN_HASH_TYPE.
+ */
+uint32_t zwerfen_two_way(const uint8_t *key, size_t key_length, uint32_t hash_type, uint32_t *meet, size_t *bit);
+
+/* ---- The guest ---- */
+
+/*
+ * The four requests. Each is put at the start of the buffer, *length is its number of octets, and the octets behind it stay
+ * as they are. Queue numbers are not judged here; the host does.
+ * They refuse by ZWERFEN_KEY_LENGTH (set key) or ZWERFEN_VALUE (set flags, set mapping), then ZWERFEN_BUFFER_LENGTH.
+ */
+uint32_t zwerfen_write_get_flags(uint8_t *buffer, size_t buffer_length, size_t *length);
+uint32_t zwerfen_write_set_flags(uint8_t *buffer, size_t buffer_length, uint64_t flags, size_t *length);
+uint32_t zwerfen_write_set_key(uint8_t *buffer, size_t buffer_length, const uint8_t *key, size_t key_length,
+                               size_t *length);
+uint32_t zwerfen_write_set_mapping(uint8_t *buffer, size_t buffer_length, const uint64_t *entries, size_t entry_count,
+                                   size_t *length);
+
+/*
+ * Reads the ack to a request of the given type: *status is its status. Only the ack to a get flags with status 0 has flags,
+ * those that the host supports; else *flags is as it was.
+ * Refuses by ZWERFEN_NOT_AN_ACK.
+ */
+uint32_t zwerfen_read_ack(uint32_t request_type, const uint8_t *message, size_t message_length, uint32_t *status,
+                          uint32_t *flags);
+
+#ifdef __cplusplus
+}
+#endif
+
+#endif

@@ -1,0 +1,208 @@
+//! The calls of the library as its C header declares them, each in a safe function that lends slices and places.
+
+use std::mem::{offset_of, size_of};
+use std::ptr::{null, null_mut, NonNull};
+
+#[repr(C)]
+#[derive(Clone, Copy)]
+pub struct Mapping {
+    pub entries: [u8; 128],
+    pub count: u8,
+}
+
+#[repr(C)]
+#[derive(Clone, Copy)]
+pub struct Settings {
+    pub queues: u8,
+    pub flags: u8,
+    pub key: [u8; 40],
+    pub mapping: Mapping,
+}
+
+#[repr(C)]
+#[derive(Clone, Copy)]
+pub struct Message {
+    pub header: [u8; 8],
+    pub payload: [u8; 1024],
+    pub taken: u64,
+}
+
+#[repr(C)]
+#[derive(Clone, Copy)]
+pub struct Incoming {
+    pub message: Message,
+    pub req_cons: u32,
+}
+
+#[repr(C)]
+#[derive(Clone, Copy)]
+pub struct Outgoing {
+    pub ack: [u8; 24],
+    pub length: usize,
+    pub written: usize,
+    pub rsp_prod: u32,
+}
+
+#[repr(C)]
+#[derive(Clone, Copy)]
+pub struct Interface {
+    pub settings: Settings,
+    pub incoming: Incoming,
+    pub outgoing: Outgoing,
+}
+
+const SIZE: usize = 1272;
+/// Where no field stands.
+const PADDING: [(usize, usize); 3] = [(171, 176), (1220, 1224), (1268, SIZE)];
+const _: () = assert!(size_of::<Settings>() == 171 && size_of::<Interface>() == SIZE);
+const _: () = assert!(offset_of!(Interface, incoming) == 176 && offset_of!(Interface, outgoing) == 1224);
+
+extern "C" {
+    fn zwerfen_set_up(interface: *mut Interface, queues: u32) -> u32;
+    fn zwerfen_event(interface: *mut Interface, page: *mut u8, page_length: usize) -> u32;
+    fn zwerfen_steer(
+        interface: *const Interface,
+        packet: *const u8,
+        packet_length: usize,
+        hash_type: *mut u32,
+        hash: *mut u32,
+        queue: *mut u32,
+    ) -> u32;
+    fn zwerfen_hash(key: *const u8, key_length: usize, input: *const u8, input_length: usize, hash: *mut u32) -> u32;
+    fn zwerfen_two_way(key: *const u8, key_length: usize, hash_type: u32, meet: *mut u32, bit: *mut usize) -> u32;
+    fn zwerfen_write_get_flags(buffer: *mut u8, buffer_length: usize, length: *mut usize) -> u32;
+    fn zwerfen_write_set_flags(buffer: *mut u8, buffer_length: usize, flags: u64, length: *mut usize) -> u32;
+    fn zwerfen_write_set_key(
+        buffer: *mut u8,
+        buffer_length: usize,
+        key: *const u8,
+        key_length: usize,
+        length: *mut usize,
+    ) -> u32;
+    fn zwerfen_write_set_mapping(
+        buffer: *mut u8,
+        buffer_length: usize,
+        entries: *const u64,
+        entry_count: usize,
+        length: *mut usize,
+    ) -> u32;
+    fn zwerfen_read_ack(
+        request_type: u32,
+        message: *const u8,
+        message_length: usize,
+        status: *mut u32,
+        flags: *mut u32,
+    ) -> u32;
+}
+
+/// A slice to read: none is a null pointer, an empty one a pointer that points at nothing.
+pub type Slice<'a, T> = Option<&'a [T]>;
+/// A slice to write, handed over in the same way.
+pub type SliceMut<'a, T> = Option<&'a mut [T]>;
+
+fn parts<T>(slice: Slice<T>) -> (*const T, usize) {
+    match slice {
+        None => (null(), 0),
+        Some([]) => (NonNull::dangling().as_ptr(), 0),
+        Some(slice) => (slice.as_ptr(), slice.len()),
+    }
+}
+
+fn parts_mut<T>(slice: SliceMut<T>) -> (*mut T, usize) {
+    match slice {
+        None => (null_mut(), 0),
+        Some([]) => (NonNull::dangling().as_ptr(), 0),
+        Some(slice) => (slice.as_mut_ptr(), slice.len()),
+    }
+}
+
+/// An interface's memory, seen by its fields and, its padding included, by its octets.
+pub union Room {
+    interface: Interface,
+    octets: [u8; SIZE],
+}
+
+impl Room {
+    /// Memory as it happens to be before setup.
+    pub fn filled(octet: u8) -> Box<Room> {
+        Box::new(Room { octets: [octet; SIZE] })
+    }
+
+    pub fn octets(&self) -> &[u8] {
+        // Every octet was written when the room was made, and octets have no invalid values.
+        unsafe { &self.octets }
+    }
+
+    pub fn interface(&self) -> &Interface {
+        // The fields are numbers and have no invalid values.
+        unsafe { &self.interface }
+    }
+
+    pub fn interface_mut(&mut self) -> &mut Interface {
+        // As above.
+        unsafe { &mut self.interface }
+    }
+
+    /// What stands between the fields after setup is not settled. It gets a value, so that whole rooms can be compared.
+    fn settle_padding(&mut self) {
+        for (start, end) in PADDING {
+            unsafe { self.octets[start..end].fill(0) }
+        }
+    }
+}
+
+// In each call below the pointers are of live slices of the lengths given and of live places, or are null or dangling
+// with length 0, and what is written is borrowed for this call alone. Calls on a room are made only once it is set up.
+
+pub fn set_up(room: &mut Room, queues: u32) -> u32 {
+    let answer = unsafe { zwerfen_set_up(room.interface_mut(), queues) };
+    if answer == 0 {
+        room.settle_padding();
+    }
+    answer
+}
+
+pub fn event(room: &mut Room, page: SliceMut<u8>) -> u32 {
+    let (page, page_length) = parts_mut(page);
+    unsafe { zwerfen_event(room.interface_mut(), page, page_length) }
+}
+
+pub fn steer(room: &Room, packet: Slice<u8>, hash_type: &mut u32, hash: &mut u32, queue: &mut u32) -> u32 {
+    let (packet, packet_length) = parts(packet);
+    unsafe { zwerfen_steer(room.interface(), packet, packet_length, hash_type, hash, queue) }
+}
+
+pub fn hash(key: Slice<u8>, input: Slice<u8>, hash: &mut u32) -> u32 {
+    let ((key, key_length), (input, input_length)) = (parts(key), parts(input));
+    unsafe { zwerfen_hash(key, key_length, input, input_length, hash) }
+}
+
+pub fn two_way(key: Slice<u8>, hash_type: u32, meet: &mut u32, bit: &mut usize) -> u32 {
+    let (key, key_length) = parts(key);
+    unsafe { zwerfen_two_way(key, key_length, hash_type, meet, bit) }
+}
+
+pub fn write_get_flags(buffer: SliceMut<u8>, length: &mut usize) -> u32 {
+    let (buffer, buffer_length) = parts_mut(buffer);
+    unsafe { zwerfen_write_get_flags(buffer, buffer_length, length) }
+}
+
+pub fn write_set_flags(buffer: SliceMut<u8>, flags: u64, length: &mut usize) -> u32 {
+    let (buffer, buffer_length) = parts_mut(buffer);
+    unsafe { zwerfen_write_set_flags(buffer, buffer_length, flags, length) }
+}
+
+pub fn write_set_key(buffer: SliceMut<u8>, key: Slice<u8>, length: &mut usize) -> u32 {
+    let ((buffer, buffer_length), (key, key_length)) = (parts_mut(buffer), parts(key));
+    unsafe { zwerfen_write_set_key(buffer, buffer_length, key, key_length, length) }
+}
+
+pub fn write_set_mapping(buffer: SliceMut<u8>, entries: Slice<u64>, length: &mut usize) -> u32 {
+    let ((buffer, buffer_length), (entries, entry_count)) = (parts_mut(buffer), parts(entries));
+    unsafe { zwerfen_write_set_mapping(buffer, buffer_length, entries, entry_count, length) }
+}
+
+pub fn read_ack(request_type: u32, message: Slice<u8>, status: &mut u32, flags: &mut u32) -> u32 {
+    let (message, message_length) = parts(message);
+    unsafe { zwerfen_read_ack(request_type, message, message_length, status, flags) }
+}
