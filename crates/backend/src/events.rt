@@ -115,14 +115,21 @@ pub fn event_in_place<'a>(
     rsp_prod: &'a mut u32,
     page: &mut [u8],
 ) -> EventAnswer
-    requires { ⌜ Good (interfaceOf queues (now flags) (now key) (now entries) (now count) (now header) (now payload) (now taken)
-        (now «req_cons») (now ack) (now «ack_length») (now written) (now «rsp_prod»)) ⌝ }
-    ensures { λ r. ⌜ left r (interfaceOf queues (now (flags .exit)) (now (key .exit)) (now (entries .exit)) (now (count .exit)) (now (header .exit)) (now (payload .exit))
-        (now (taken .exit)) (now («req_cons» .exit)) (now (ack .exit)) (now («ack_length» .exit)) (now (written .exit)) (now («rsp_prod» .exit))) (now (page .exit))
-        ≡ eventOf (interfaceOf queues (now (flags .entry)) (now (key .entry)) (now (entries .entry)) (now (count .entry)) (now (header .entry)) (now (payload .entry))
-        (now (taken .entry)) (now («req_cons» .entry)) (now (ack .entry)) (now («ack_length» .entry)) (now (written .entry)) (now («rsp_prod» .entry))) (now (page .entry)) ⌝ }
-    ensures { λ _. ⌜ Good (interfaceOf queues (now (flags .exit)) (now (key .exit)) (now (entries .exit)) (now (count .exit)) (now (header .exit)) (now (payload .exit))
-        (now (taken .exit)) (now («req_cons» .exit)) (now (ack .exit)) (now («ack_length» .exit)) (now (written .exit)) (now («rsp_prod» .exit))) ⌝ }
+    requires { ⌜ Good (interfaceOf queues (now flags) (now key) (now entries) (now count) (now header)
+        (now payload) (now taken) (now «req_cons») (now ack) (now «ack_length») (now written)
+        (now «rsp_prod»)) ⌝ }
+    ensures { λ r. ⌜ left r (interfaceOf queues (now (flags .exit)) (now (key .exit)) (now (entries .exit))
+        (now (count .exit)) (now (header .exit)) (now (payload .exit)) (now (taken .exit))
+        (now («req_cons» .exit)) (now (ack .exit)) (now («ack_length» .exit)) (now (written .exit))
+        (now («rsp_prod» .exit))) (now (page .exit))
+        ≡ eventOf (interfaceOf queues (now (flags .entry)) (now (key .entry)) (now (entries .entry))
+        (now (count .entry)) (now (header .entry)) (now (payload .entry)) (now (taken .entry))
+        (now («req_cons» .entry)) (now (ack .entry)) (now («ack_length» .entry)) (now (written .entry))
+        (now («rsp_prod» .entry))) (now (page .entry)) ⌝ }
+    ensures { λ _. ⌜ Good (interfaceOf queues (now (flags .exit)) (now (key .exit)) (now (entries .exit))
+        (now (count .exit)) (now (header .exit)) (now (payload .exit)) (now (taken .exit))
+        (now («req_cons» .exit)) (now (ack .exit)) (now («ack_length» .exit)) (now (written .exit))
+        (now («rsp_prod» .exit))) ⌝ }
 {
     if page.len() != PAGE {
         return EventAnswer::PageLength;
@@ -203,9 +210,11 @@ fn carry_over(
     ack: &mut [u8; MAX_ACK],
     ack_length: &mut usize,
 )
-    ensures { λ _. ⌜ carriedAs (settingsOf queues (now (flags .exit)) (now (key .exit)) (now (entries .exit)) (now (count .exit)))
+    ensures { λ _. ⌜ carriedAs
+        (settingsOf queues (now (flags .exit)) (now (key .exit)) (now (entries .exit)) (now (count .exit)))
         (now (ack .exit)) (now («ack_length» .exit))
-        ≡ carriedOut (settingsOf queues (now (flags .entry)) (now (key .entry)) (now (entries .entry)) (now (count .entry)))
+        ≡ carriedOut
+        (settingsOf queues (now (flags .entry)) (now (key .entry)) (now (entries .entry)) (now (count .entry)))
         (typeIn (now (header .entry))) (sizeIn (now (header .entry))) (now (payload .entry)) ⌝ }
 {
     let kind = octets::read_u32(header, 0);
@@ -236,8 +245,10 @@ fn respond(
 ) -> EventAnswer
     requires { ⌜ length (now page) ≡ pageSize ⌝ }
     requires { ⌜ GoodOutgoing (outgoingOf (now ack) size (now written) (now «rsp_prod»)) ⌝ }
-    ensures { λ r. ⌜ Responds (outgoingOf (now (ack .entry)) size (now (written .entry)) (now («rsp_prod» .entry))) (now (page .entry)) «req_cons» room
-        r (outgoingOf (now (ack .entry)) size (now (written .exit)) (now («rsp_prod» .exit))) (now (page .exit)) ⌝ }
+    ensures { λ r. ⌜ Responds
+        (outgoingOf (now (ack .entry)) size (now (written .entry)) (now («rsp_prod» .entry))) (now (page .entry))
+        «req_cons» room r
+        (outgoingOf (now (ack .entry)) size (now (written .exit)) (now («rsp_prod» .exit))) (now (page .exit)) ⌝ }
 {
     ring::send(page, ack, size, written, rsp_prod, room);
     write_counts(page, req_cons, *rsp_prod);

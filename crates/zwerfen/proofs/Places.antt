@@ -17,7 +17,8 @@ use base.Logic.{SProp, ent, sep, ex}
 use base.Fml.{Lft, GName, Share, Fml, ftrue, fsep, fdead, flent, fres}
 use prog.Wp.{Heap}
 use ghost.Atoms.{Atoms, sem}
-use types.Kit.{Given, ‵, _⊛_, some, later, _$_, _∵_, !, qed, move, keep, use1, use3, split, pick, fsplit, fjoin, await, updating, now as at-once, show, frame, done}
+use types.Kit.{Given, ‵, _⊛_, some, later, _$_, _∵_, !, qed, move, keep, use1, use3, split, pick, fsplit, fjoin, await, updating}
+use types.Kit.{now as at-once, show, frame, done}
 use types.SemTy.{Body}
 use denote.RattleType.{RattleType, Denots, Valss, owns}
 use denote.Memory.{partAt, mem}
@@ -72,9 +73,11 @@ module _ (b : ℕ) where
     lends-all [] a = qed W (‵ (lie fullShare [] a) ∷ []) ∵ updating ! $ at-once ! $ show ! (Lent [] a) tt $ nothing ! $ frame ! $ done !
     lends-all (p ∷ ps) a =
         qed W (‵ (lie fullShare (p ∷ ps) a) ∷ []) ∵ updating ! $ fsplit ! $
-        use1 W (later (some (λ (γ : GName). ‵ (MutRef ℓ κ (p .row) .own (record { ptr = (b, p .at); name = γ; now = a .0 }) (vptr b (p .at) ∷ [])) ⊛ ‵ (flent κ (Body (mem (p .row)) b (p .at) γ)))))
+        use1 W (later (some (λ (γ : GName). ‵ (MutRef ℓ κ (p .row) .own (record { ptr = (b, p .at); name = γ; now = a .0 }) (vptr b (p .at)
+        ∷ [])) ⊛ ‵ (flent κ (Body (mem (p .row)) b (p .at) γ)))))
         (lends-ref 𝓤 H A W (p .row) ℓ κ (a .0) b (p .at)) $ await ! tt $ pick ! (λ γ. split ! $ move ! (2 ∷ []) $
-        use1 W (later (some (λ (γs : Names ps). ‵ (owns (refs ℓ κ ps) (lent ℓ κ ps (a .1) γs) (pointers ℓ κ ps)) ⊛ ‵ (loans ps κ γs)))) (lends-all ps (a .1)) $ await ! tt $ pick ! (λ γs. split ! $
+        use1 W (later (some (λ (γs : Names ps). ‵ (owns (refs ℓ κ ps) (lent ℓ κ ps (a .1) γs) (pointers ℓ κ ps)) ⊛ ‵ (loans ps κ γs))))
+        (lends-all ps (a .1)) $ await ! tt $ pick ! (λ γs. split ! $
         -- [the other references; the other loans; the first reference; the first loan]
         at-once ! $ show ! (Lent (p ∷ ps) a) (γ, γs) $ move ! (2 ∷ 0 ∷ []) $ fjoin ! $ frame ! $ move ! (1 ∷ 0 ∷ []) $ fjoin ! $ done !))
 
@@ -85,5 +88,7 @@ module _ (b : ℕ) where
         qed W (‵ (fdead κ) ∷ ‵ (loans (p ∷ ps) κ γs) ∷ ‵ (ended (p ∷ ps) γs a) ∷ []) ∵ updating ! $
         use1 W (‵ (fdead κ) ⊛ ‵ (fdead κ)) (W .lfts .dead-dup κ) $ split ! $ move ! (2 ∷ []) $ fsplit ! $ move ! (4 ∷ []) $ fsplit ! $
         -- [the first's last value; the others'; the first loan; the others; dead; dead]
-        move ! (4 ∷ 2 ∷ 0 ∷ []) $ use3 W (later (‵ (partAt (p .row) fullShare (a .0) b (p .at)))) (ref-back 𝓤 H A W (p .row) κ (γs .0) (a .0) b (p .at)) $ await ! tt $
-        move ! (3 ∷ 2 ∷ 1 ∷ []) $ use3 W (later (‵ (lie fullShare ps (a .1)))) (all-back ps (γs .1) (a .1)) $ await ! tt $ at-once ! $ move ! (1 ∷ 0 ∷ []) $ fjoin ! $ done !
+        move ! (4 ∷ 2 ∷ 0 ∷ []) $ use3 W (later (‵ (partAt (p .row) fullShare (a .0) b (p .at)))) (ref-back 𝓤 H A W (p .row) κ (γs .0) (a .0) b
+        (p .at)) $ await ! tt $
+        move ! (3 ∷ 2 ∷ 1 ∷ []) $ use3 W (later (‵ (lie fullShare ps (a .1)))) (all-back ps (γs .1) (a .1)) $ await ! tt $ at-once ! $
+        move ! (1 ∷ 0 ∷ []) $ fjoin ! $ done !

@@ -55,7 +55,8 @@ pub extern "C" fn zwerfen_set_up(interface: &mut Interface, queues: u32) -> u32
 
 // A new interface, or the one held where the number of queues is refused.
 fn start(held: Interface, queues: u32) -> Started
-    ensures { λ r. ⌜ (r .number ≡ numberOf (setUpOutcome queues)) × (r .interface ≡ placed itself (setUpOutcome queues) held) ⌝ }
+    ensures { λ r. ⌜ (r .number ≡ numberOf (setUpOutcome queues))
+        × (r .interface ≡ placed itself (setUpOutcome queues) held) ⌝ }
 {
     let answer = backend::set_up(queues);
     if answer.made {
@@ -75,7 +76,8 @@ fn start(held: Interface, queues: u32) -> Started
 #[no_mangle]
 pub extern "C" fn zwerfen_event(interface: &mut Interface, page: &mut [u8]) -> u32
     requires { ⌜ Good (now interface) ⌝ }
-    ensures { λ r. ⌜ (left r (now (interface .exit)) (now (page .exit)) ≡ eventOf (now (interface .entry)) (now (page .entry)))
+    ensures { λ r. ⌜ (left r (now (interface .exit)) (now (page .exit))
+        ≡ eventOf (now (interface .entry)) (now (page .entry)))
         × Good (now (interface .exit)) ⌝ }
 {
     event_on_parts(
@@ -113,14 +115,21 @@ fn event_on_parts<'a>(
     written: &'a mut usize,
     rsp_prod: &'a mut u32,
 ) -> u32
-    requires { ⌜ Good (interfaceOf queues (now flags) (now key) (now entries) (now count) (now header) (now payload) (now taken)
-        (now «req_cons») (now ack) (now «ack_length») (now written) (now «rsp_prod»)) ⌝ }
-    ensures { λ r. ⌜ (left r (interfaceOf queues (now (flags .exit)) (now (key .exit)) (now (entries .exit)) (now (count .exit)) (now (header .exit)) (now (payload .exit))
-        (now (taken .exit)) (now («req_cons» .exit)) (now (ack .exit)) (now («ack_length» .exit)) (now (written .exit)) (now («rsp_prod» .exit))) (now (page .exit))
-        ≡ eventOf (interfaceOf queues (now (flags .entry)) (now (key .entry)) (now (entries .entry)) (now (count .entry)) (now (header .entry)) (now (payload .entry))
-        (now (taken .entry)) (now («req_cons» .entry)) (now (ack .entry)) (now («ack_length» .entry)) (now (written .entry)) (now («rsp_prod» .entry))) (now (page .entry)))
-        × Good (interfaceOf queues (now (flags .exit)) (now (key .exit)) (now (entries .exit)) (now (count .exit)) (now (header .exit)) (now (payload .exit))
-        (now (taken .exit)) (now («req_cons» .exit)) (now (ack .exit)) (now («ack_length» .exit)) (now (written .exit)) (now («rsp_prod» .exit))) ⌝ }
+    requires { ⌜ Good (interfaceOf queues (now flags) (now key) (now entries) (now count) (now header)
+        (now payload) (now taken) (now «req_cons») (now ack) (now «ack_length») (now written)
+        (now «rsp_prod»)) ⌝ }
+    ensures { λ r. ⌜ (left r (interfaceOf queues (now (flags .exit)) (now (key .exit)) (now (entries .exit))
+        (now (count .exit)) (now (header .exit)) (now (payload .exit)) (now (taken .exit))
+        (now («req_cons» .exit)) (now (ack .exit)) (now («ack_length» .exit)) (now (written .exit))
+        (now («rsp_prod» .exit))) (now (page .exit))
+        ≡ eventOf (interfaceOf queues (now (flags .entry)) (now (key .entry)) (now (entries .entry))
+        (now (count .entry)) (now (header .entry)) (now (payload .entry)) (now (taken .entry))
+        (now («req_cons» .entry)) (now (ack .entry)) (now («ack_length» .entry)) (now (written .entry))
+        (now («rsp_prod» .entry))) (now (page .entry)))
+        × Good (interfaceOf queues (now (flags .exit)) (now (key .exit)) (now (entries .exit))
+        (now (count .exit)) (now (header .exit)) (now (payload .exit)) (now (taken .exit))
+        (now («req_cons» .exit)) (now (ack .exit)) (now («ack_length» .exit)) (now (written .exit))
+        (now («rsp_prod» .exit))) ⌝ }
 {
     let answer = backend::event_in_place(
         queues,
@@ -165,8 +174,9 @@ pub extern "C" fn zwerfen_steer(
     queue: &mut u32,
 ) -> u32
     requires { ⌜ Good (now interface) ⌝ }
-    ensures { λ r. ⌜ Steers (steeredBy (now (interface .entry) .settings) (now (packet .entry))) (now («hash_type» .entry)) (now (hash .entry))
-        r (now («hash_type» .exit)) (now (hash .exit)) (now (queue .exit)) ⌝ }
+    ensures { λ r. ⌜ Steers (steeredBy (now (interface .entry) .settings) (now (packet .entry)))
+        (now («hash_type» .entry)) (now (hash .entry)) r (now («hash_type» .exit)) (now (hash .exit))
+        (now (queue .exit)) ⌝ }
 {
     steer_on_parts(
         interface.settings.flags,
@@ -192,8 +202,9 @@ fn steer_on_parts<'a>(
     queue: &mut u32,
 ) -> u32
     requires { ⌜ isListed count ≡ true ⌝ }
-    ensures { λ r. ⌜ Steers (steered flags (now (key .entry)) (take count (now (entries .entry))) (now (packet .entry))) (now («hash_type» .entry)) (now (hash .entry))
-        r (now («hash_type» .exit)) (now (hash .exit)) (now (queue .exit)) ⌝ }
+    ensures { λ r. ⌜ Steers (steered flags (now (key .entry)) (take count (now (entries .entry)))
+        (now (packet .entry))) (now («hash_type» .entry)) (now (hash .entry)) r (now («hash_type» .exit))
+        (now (hash .exit)) (now (queue .exit)) ⌝ }
 {
     let answer = backend::steer_in_place(flags, key, entries, count, packet);
     match answer {
