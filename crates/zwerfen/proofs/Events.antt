@@ -8,5 +8,6 @@ use Rattle.backend.specs.declared.Interface.{Interface}
 use Rattle.backend.specs.declared.EventAnswer.{EventAnswer}
 use Rattle.zwerfen.specs.Answers.{left}
 
-pub numbered : (k : ℕ) (r : EventAnswer) (s : Interface) (page : List ℕ) {a : After} → k ≡ answerNumber r → leftBy r s page ≡ a → left k s page ≡ a
+pub numbered : (k : ℕ) (r : EventAnswer) (s : Interface) (page : List ℕ) {a : After} → k ≡ answerNumber r → leftBy r s page ≡ a
+    → left k s page ≡ a
 numbered k r s page e same = rw e same

@@ -67,40 +67,13 @@ places o =
     ∷ []
 
 abbrev pub parts : Interface → Denots (rowsAt (places 0))
-parts h = (
-  h .settings .flags,
-  (
-    h .settings .key,
-    (
-      h .settings .mapping .entries,
-      (
-        h .settings .mapping .count,
-        (
-          h .incoming .message .header,
-          (
-            h .incoming .message .payload,
-            (
-              h .incoming .message .taken,
-              (
-                h .incoming .«req_cons»,
-                (
-                  h .outgoing .ack,
-                  (
-                    h .outgoing .length,
-                    (
-                      h .outgoing .written,
-                      (h .outgoing .«rsp_prod», tt),
-                    ),
-                  ),
-                ),
-              ),
-            ),
-          ),
-        ),
-      ),
-    ),
-  ),
-)
+parts h =
+    let s = h .settings in
+    let m = h .incoming .message in
+    let a = h .outgoing in
+    let sent : List ℕ × (ℕ × (ℕ × (ℕ × Unit {0}))) = (a .ack, (a .length, (a .written, (a .«rsp_prod», tt)))) in
+    let read : List ℕ × (List ℕ × (ℕ × (ℕ × (List ℕ × (ℕ × (ℕ × (ℕ × Unit {0}))))))) = (m .header, (m .payload, (m .taken, (h .incoming .«req_cons», sent)))) in
+    (s .flags, (s .key, (s .mapping .entries, (s .mapping .count, read))))
 
 -- a struct's fields as the logic has them, and in memory
 abbrev members : List Field → List Member
@@ -116,54 +89,57 @@ module _ {M : Type 1} (𝓤 : URA M) (H : Heap 𝓤) (A : Atoms 𝓤) (W : Given
   Again D b o = PartsBack 𝓤 H A t (D .name) (members (D .parts)) b o
 
   together : (D : Declared) (a : Denots (rowsOf (members (D .parts)))) (b o : ℕ)
-      → ent 𝓤 (sep 𝓤 (sem 𝓤 H A (fieldsIn t D a b o)) (Again D b o)) (sem 𝓤 H A (partAt (Struct (shapeOf (D .name) (members (D .parts)))) t a b o))
+      → ent 𝓤 (sep 𝓤 (sem 𝓤 H A (fieldsIn t D a b o)) (Again D b o))
+      (sem 𝓤 H A (partAt (Struct (shapeOf (D .name) (members (D .parts)))) t a b o))
   together D a b o =
       via 𝓤 (sep 𝓤 (Again D b o) (sem 𝓤 H A (fieldsIn t D a b o))) (comm∗ 𝓤 (sem 𝓤 H A (fieldsIn t D a b o)) (Again D b o))
       (wandE 𝓤 (Again D b o) (sem 𝓤 H A (fieldsIn t D a b o)) (sem 𝓤 H A (partAt (Struct (shapeOf (D .name) (members (D .parts)))) t a b o))
-      (allE 𝓤 (λ (a′ : Denots (rowsOf (members (D .parts)))). wand 𝓤 (sem 𝓤 H A (fieldsIn t D a′ b o)) (sem 𝓤 H A (partAt (Struct (shapeOf
-      (D .name) (members (D .parts)))) t a′ b o))) a))
+      (allE 𝓤 (λ (a′ : Denots (rowsOf (members (D .parts)))). wand 𝓤 (sem 𝓤 H A (fieldsIn t D a′ b o))
+      (sem 𝓤 H A (partAt (Struct (shapeOf (D .name) (members (D .parts)))) t a′ b o))) a))
 
-  t-together : (h : Interface) (b o : ℕ) → ent 𝓤 (sep 𝓤 (sem 𝓤 H A (fieldsIn t T.the-type (T.the-type .to h) b o)) (Again T.the-type b o))
+  t-together : (h : Interface) (b o : ℕ)
+      → ent 𝓤 (sep 𝓤 (sem 𝓤 H A (fieldsIn t T.the-type (T.the-type .to h) b o)) (Again T.the-type b o))
       (sem 𝓤 H A (partAt T.the-row t h b o))
   unfolding partOf
   t-together h b o = together T.the-type (T.the-type .to h) b o
 
   -- each struct taken apart
-  t-apart : (h : Interface) (b o : ℕ) → ent 𝓤 (sem 𝓤 H A (partAt T.the-row t h b o)) (sep 𝓤 (sem 𝓤 H A (fieldsIn t T.the-type
-      (T.the-type .to h) b o)) (Again T.the-type b o))
+  t-apart : (h : Interface) (b o : ℕ)
+      → ent 𝓤 (sem 𝓤 H A (partAt T.the-row t h b o)) (sep 𝓤 (sem 𝓤 H A (fieldsIn t T.the-type (T.the-type .to h) b o))
+      (Again T.the-type b o))
   unfolding partOf
-  t-apart h b o = struct-parts 𝓤 H A W t (T.the-type .name) (members (T.the-type .parts)) (LL.lawfuls 𝓤 H A W (T.the-type .parts) T′.the-laws)
-      (T.the-type .to h) b o
+  t-apart h b o = struct-parts 𝓤 H A W t (T.the-type .name) (members (T.the-type .parts))
+      (LL.lawfuls 𝓤 H A W (T.the-type .parts) T′.the-laws) (T.the-type .to h) b o
 
   s-apart : (h : Interface) (b o : ℕ)
-      → ent 𝓤 (sem 𝓤 H A (partAt (Struct (shape S.the-type)) t (S.the-type .to (h .settings)) b (o + 0))) (sep 𝓤 (sem 𝓤 H A (fieldsIn t S.the-type
-      (S.the-type .to (h .settings)) b (o + 0))) (Again S.the-type b (o + 0)))
-  s-apart h b o = struct-parts 𝓤 H A W t (S.the-type .name) (members (S.the-type .parts)) (LL.lawfuls 𝓤 H A W (S.the-type .parts) S′.the-laws)
-      (S.the-type .to (h .settings)) b (o + 0)
+      → ent 𝓤 (sem 𝓤 H A (partAt (Struct (shape S.the-type)) t (S.the-type .to (h .settings)) b (o + 0)))
+      (sep 𝓤 (sem 𝓤 H A (fieldsIn t S.the-type (S.the-type .to (h .settings)) b (o + 0))) (Again S.the-type b (o + 0)))
+  s-apart h b o = struct-parts 𝓤 H A W t (S.the-type .name) (members (S.the-type .parts))
+      (LL.lawfuls 𝓤 H A W (S.the-type .parts) S′.the-laws) (S.the-type .to (h .settings)) b (o + 0)
 
   n-apart : (h : Interface) (b o : ℕ)
-      → ent 𝓤 (sem 𝓤 H A (partAt (Struct (shape N.the-type)) t (N.the-type .to (h .settings .mapping)) b (o + 0 + 42))) (sep 𝓤 (sem 𝓤 H A
-      (fieldsIn t N.the-type (N.the-type .to (h .settings .mapping)) b (o + 0 + 42))) (Again N.the-type b (o + 0 + 42)))
-  n-apart h b o = struct-parts 𝓤 H A W t (N.the-type .name) (members (N.the-type .parts)) (LL.lawfuls 𝓤 H A W (N.the-type .parts) N′.the-laws)
-      (N.the-type .to (h .settings .mapping)) b (o + 0 + 42)
+      → ent 𝓤 (sem 𝓤 H A (partAt (Struct (shape N.the-type)) t (N.the-type .to (h .settings .mapping)) b (o + 0 + 42)))
+      (sep 𝓤 (sem 𝓤 H A (fieldsIn t N.the-type (N.the-type .to (h .settings .mapping)) b (o + 0 + 42))) (Again N.the-type b (o + 0 + 42)))
+  n-apart h b o = struct-parts 𝓤 H A W t (N.the-type .name) (members (N.the-type .parts))
+      (LL.lawfuls 𝓤 H A W (N.the-type .parts) N′.the-laws) (N.the-type .to (h .settings .mapping)) b (o + 0 + 42)
 
   r-apart : (h : Interface) (b o : ℕ)
-      → ent 𝓤 (sem 𝓤 H A (partAt (Struct (shape R.the-type)) t (R.the-type .to (h .incoming)) b (o + 176))) (sep 𝓤 (sem 𝓤 H A (fieldsIn t R.the-type
-      (R.the-type .to (h .incoming)) b (o + 176))) (Again R.the-type b (o + 176)))
-  r-apart h b o = struct-parts 𝓤 H A W t (R.the-type .name) (members (R.the-type .parts)) (LL.lawfuls 𝓤 H A W (R.the-type .parts) R′.the-laws)
-      (R.the-type .to (h .incoming)) b (o + 176)
+      → ent 𝓤 (sem 𝓤 H A (partAt (Struct (shape R.the-type)) t (R.the-type .to (h .incoming)) b (o + 176)))
+      (sep 𝓤 (sem 𝓤 H A (fieldsIn t R.the-type (R.the-type .to (h .incoming)) b (o + 176))) (Again R.the-type b (o + 176)))
+  r-apart h b o = struct-parts 𝓤 H A W t (R.the-type .name) (members (R.the-type .parts))
+      (LL.lawfuls 𝓤 H A W (R.the-type .parts) R′.the-laws) (R.the-type .to (h .incoming)) b (o + 176)
 
   g-apart : (h : Interface) (b o : ℕ)
-      → ent 𝓤 (sem 𝓤 H A (partAt (Struct (shape G.the-type)) t (G.the-type .to (h .incoming .message)) b (o + 176 + 0))) (sep 𝓤 (sem 𝓤 H A
-      (fieldsIn t G.the-type (G.the-type .to (h .incoming .message)) b (o + 176 + 0))) (Again G.the-type b (o + 176 + 0)))
-  g-apart h b o = struct-parts 𝓤 H A W t (G.the-type .name) (members (G.the-type .parts)) (LL.lawfuls 𝓤 H A W (G.the-type .parts) G′.the-laws)
-      (G.the-type .to (h .incoming .message)) b (o + 176 + 0)
+      → ent 𝓤 (sem 𝓤 H A (partAt (Struct (shape G.the-type)) t (G.the-type .to (h .incoming .message)) b (o + 176 + 0)))
+      (sep 𝓤 (sem 𝓤 H A (fieldsIn t G.the-type (G.the-type .to (h .incoming .message)) b (o + 176 + 0))) (Again G.the-type b (o + 176 + 0)))
+  g-apart h b o = struct-parts 𝓤 H A W t (G.the-type .name) (members (G.the-type .parts))
+      (LL.lawfuls 𝓤 H A W (G.the-type .parts) G′.the-laws) (G.the-type .to (h .incoming .message)) b (o + 176 + 0)
 
   o-apart : (h : Interface) (b o : ℕ)
-      → ent 𝓤 (sem 𝓤 H A (partAt (Struct (shape O.the-type)) t (O.the-type .to (h .outgoing)) b (o + 1224))) (sep 𝓤 (sem 𝓤 H A (fieldsIn t O.the-type
-      (O.the-type .to (h .outgoing)) b (o + 1224))) (Again O.the-type b (o + 1224)))
-  o-apart h b o = struct-parts 𝓤 H A W t (O.the-type .name) (members (O.the-type .parts)) (LL.lawfuls 𝓤 H A W (O.the-type .parts) O′.the-laws)
-      (O.the-type .to (h .outgoing)) b (o + 1224)
+      → ent 𝓤 (sem 𝓤 H A (partAt (Struct (shape O.the-type)) t (O.the-type .to (h .outgoing)) b (o + 1224)))
+      (sep 𝓤 (sem 𝓤 H A (fieldsIn t O.the-type (O.the-type .to (h .outgoing)) b (o + 1224))) (Again O.the-type b (o + 1224)))
+  o-apart h b o = struct-parts 𝓤 H A W t (O.the-type .name) (members (O.the-type .parts))
+      (LL.lawfuls 𝓤 H A W (O.the-type .parts) O′.the-laws) (O.the-type .to (h .outgoing)) b (o + 1224)
 
   abbrev pub Parted : Interface → ℕ → ℕ → SProp 𝓤
   Parted h b o = sep 𝓤 (sem 𝓤 H A (partAt u8 t (h .settings .queues) b (o + 0 + 0))) (sem 𝓤 H A (lie b t (places o) (parts h)))
@@ -206,22 +182,24 @@ module _ {M : Type 1} (𝓤 : URA M) (H : Heap 𝓤) (A : Atoms 𝓤) (W : Given
       rewrite ! 7 (λ (zs : List ℕ). ‵ (partAt (octets 1024) t zs b (o + 176 + 0 + 8))) (sym (map-id (h′ .incoming .message .payload))) refl $
       rewrite ! 4 (λ (zs : List ℕ). ‵ (partAt (octets 24) t zs b (o + 1224 + 0))) (sym (map-id (h′ .outgoing .ack))) refl $ move ! (1 ∷ []) $ drop ! $
       nothing ! $ move ! (9 ∷ 0 ∷ []) $ fjoin ! $ move ! (9 ∷ 0 ∷ []) $ fjoin ! $ move ! (0 ∷ 15 ∷ []) $
-      use2 W (‵ (partAt (Struct (shape N.the-type)) t (N.the-type .to (h′ .settings .mapping)) b (o + 0 + 42))) (together N.the-type (N.the-type .to
-      (h′ .settings .mapping)) b (o + 0 + 42)) $
-      nothing ! $ move ! (1 ∷ 0 ∷ []) $ fjoin ! $ move ! (9 ∷ 0 ∷ []) $ fjoin ! $ move ! (9 ∷ 0 ∷ []) $ fjoin ! $ move ! (9 ∷ 0 ∷ []) $ fjoin ! $
+      use2 W (‵ (partAt (Struct (shape N.the-type)) t (N.the-type .to (h′ .settings .mapping)) b (o + 0 + 42)))
+      (together N.the-type (N.the-type .to (h′ .settings .mapping)) b (o + 0 + 42)) $
+      nothing ! $ move ! (1 ∷ 0 ∷ []) $ fjoin ! $ move ! (9 ∷ 0 ∷ []) $ fjoin ! $ move ! (9 ∷ 0 ∷ []) $ fjoin ! $
+      move ! (9 ∷ 0 ∷ []) $ fjoin ! $
       move ! (0 ∷ 12 ∷ []) $
-      use2 W (‵ (partAt (Struct (shape S.the-type)) t (S.the-type .to (h′ .settings)) b (o + 0))) (together S.the-type (S.the-type .to (h′ .settings)) b
-      (o + 0)) $
+      use2 W (‵ (partAt (Struct (shape S.the-type)) t (S.the-type .to (h′ .settings)) b (o + 0)))
+      (together S.the-type (S.the-type .to (h′ .settings)) b (o + 0)) $
       nothing ! $ move ! (7 ∷ 0 ∷ []) $ fjoin ! $ move ! (7 ∷ 0 ∷ []) $ fjoin ! $ move ! (7 ∷ 0 ∷ []) $ fjoin ! $ move ! (0 ∷ 8 ∷ []) $
-      use2 W (‵ (partAt (Struct (shape G.the-type)) t (G.the-type .to (h′ .incoming .message)) b (o + 176 + 0))) (together G.the-type (G.the-type .to
-      (h′ .incoming .message)) b (o + 176 + 0)) $
+      use2 W (‵ (partAt (Struct (shape G.the-type)) t (G.the-type .to (h′ .incoming .message)) b (o + 176 + 0)))
+      (together G.the-type (G.the-type .to (h′ .incoming .message)) b (o + 176 + 0)) $
       nothing ! $ move ! (7 ∷ 0 ∷ []) $ fjoin ! $ move ! (1 ∷ 0 ∷ []) $ fjoin ! $ move ! (0 ∷ 7 ∷ []) $
-      use2 W (‵ (partAt (Struct (shape R.the-type)) t (R.the-type .to (h′ .incoming)) b (o + 176))) (together R.the-type (R.the-type .to (h′ .incoming)) b
-      (o + 176)) $
-      nothing ! $ move ! (3 ∷ 0 ∷ []) $ fjoin ! $ move ! (3 ∷ 0 ∷ []) $ fjoin ! $ move ! (3 ∷ 0 ∷ []) $ fjoin ! $ move ! (3 ∷ 0 ∷ []) $ fjoin ! $
+      use2 W (‵ (partAt (Struct (shape R.the-type)) t (R.the-type .to (h′ .incoming)) b (o + 176)))
+      (together R.the-type (R.the-type .to (h′ .incoming)) b (o + 176)) $
+      nothing ! $ move ! (3 ∷ 0 ∷ []) $ fjoin ! $ move ! (3 ∷ 0 ∷ []) $ fjoin ! $ move ! (3 ∷ 0 ∷ []) $ fjoin ! $
+      move ! (3 ∷ 0 ∷ []) $ fjoin ! $
       move ! (0 ∷ 3 ∷ []) $
-      use2 W (‵ (partAt (Struct (shape O.the-type)) t (O.the-type .to (h′ .outgoing)) b (o + 1224))) (together O.the-type (O.the-type .to (h′ .outgoing)) b
-      (o + 1224)) $
+      use2 W (‵ (partAt (Struct (shape O.the-type)) t (O.the-type .to (h′ .outgoing)) b (o + 1224)))
+      (together O.the-type (O.the-type .to (h′ .outgoing)) b (o + 1224)) $
       nothing ! $ move ! (1 ∷ 0 ∷ []) $ fjoin ! $ move ! (1 ∷ 0 ∷ []) $ fjoin ! $ move ! (1 ∷ 0 ∷ []) $ fjoin ! $
       use2 W (‵ (partAt T.the-row t h′ b o)) (t-together h′ b o) $ done !)
 
@@ -233,15 +211,15 @@ module _ {M : Type 1} (𝓤 : URA M) (H : Heap 𝓤) (A : Atoms 𝓤) (W : Given
       (allE 𝓤 (λ (h′ : Interface). wand 𝓤 (Parted h′ b o) (sem 𝓤 H A (partAt T.the-row t h′ b o))) h))
 
   -- an octet in memory is its cell, and back
-  pub octet-out : (n b o : ℕ) → ent 𝓤 (sem 𝓤 H A (partAt u8 t n b o)) (sep 𝓤 (sem 𝓤 H A (fat t (tyInt w8) b o (vint w8 n))) (sem 𝓤 H A
-      (u8 .own n (vint w8 n ∷ []))))
+  pub octet-out : (n b o : ℕ) → ent 𝓤 (sem 𝓤 H A (partAt u8 t n b o)) (sep 𝓤 (sem 𝓤 H A (fat t (tyInt w8) b o (vint w8 n)))
+      (sem 𝓤 H A (u8 .own n (vint w8 n ∷ []))))
   unfolding partOf
   octet-out n b o =
-      qed W (‵ (partAt u8 t n b o) ∷ []) ∵ fpick ! (λ vs. fsplit ! $ spelt ! u8 (Is u8) (shows 𝓤 H A u8) (uint-vals w8) (uint-tells w8) t n vs b o $
-      done !)
+      qed W (‵ (partAt u8 t n b o) ∷ []) ∵ fpick ! (λ vs. fsplit ! $
+      spelt ! u8 (Is u8) (shows 𝓤 H A u8) (uint-vals w8) (uint-tells w8) t n vs b o $ done !)
 
-  pub octet-in : (n b o : ℕ) → ent 𝓤 (sep 𝓤 (sem 𝓤 H A (fat t (tyInt w8) b o (vint w8 n))) (sem 𝓤 H A (u8 .own n (vint w8 n
-      ∷ [])))) (sem 𝓤 H A (partAt u8 t n b o))
+  pub octet-in : (n b o : ℕ) → ent 𝓤 (sep 𝓤 (sem 𝓤 H A (fat t (tyInt w8) b o (vint w8 n)))
+      (sem 𝓤 H A (u8 .own n (vint w8 n ∷ [])))) (sem 𝓤 H A (partAt u8 t n b o))
   unfolding partOf
   octet-in n b o =
       qed W (‵ (fat t (tyInt w8) b o (vint w8 n)) ∷ ‵ (u8 .own n (vint w8 n ∷ [])) ∷ []) ∵

@@ -73,22 +73,24 @@ module _ (b : ℕ) where
     lends-all [] a = qed W (‵ (lie fullShare [] a) ∷ []) ∵ updating ! $ at-once ! $ show ! (Lent [] a) tt $ nothing ! $ frame ! $ done !
     lends-all (p ∷ ps) a =
         qed W (‵ (lie fullShare (p ∷ ps) a) ∷ []) ∵ updating ! $ fsplit ! $
-        use1 W (later (some (λ (γ : GName). ‵ (MutRef ℓ κ (p .row) .own (record { ptr = (b, p .at); name = γ; now = a .0 }) (vptr b (p .at)
-        ∷ [])) ⊛ ‵ (flent κ (Body (mem (p .row)) b (p .at) γ)))))
+        use1 W (later (some (λ (γ : GName). ‵ (MutRef ℓ κ (p .row) .own (record { ptr = (b, p .at); name = γ; now = a .0 })
+        (vptr b (p .at) ∷ [])) ⊛ ‵ (flent κ (Body (mem (p .row)) b (p .at) γ)))))
         (lends-ref 𝓤 H A W (p .row) ℓ κ (a .0) b (p .at)) $ await ! tt $ pick ! (λ γ. split ! $ move ! (2 ∷ []) $
-        use1 W (later (some (λ (γs : Names ps). ‵ (owns (refs ℓ κ ps) (lent ℓ κ ps (a .1) γs) (pointers ℓ κ ps)) ⊛ ‵ (loans ps κ γs))))
-        (lends-all ps (a .1)) $ await ! tt $ pick ! (λ γs. split ! $
+        use1 W (later (some (λ (γs : Names ps).
+        ‵ (owns (refs ℓ κ ps) (lent ℓ κ ps (a .1) γs) (pointers ℓ κ ps)) ⊛ ‵ (loans ps κ γs)))) (lends-all ps (a .1)) $
+        await ! tt $ pick ! (λ γs. split ! $
         -- [the other references; the other loans; the first reference; the first loan]
         at-once ! $ show ! (Lent (p ∷ ps) a) (γ, γs) $ move ! (2 ∷ 0 ∷ []) $ fjoin ! $ frame ! $ move ! (1 ∷ 0 ∷ []) $ fjoin ! $ done !))
 
     pub all-back : (ps : List Place) (γs : Names ps) (a : Denots (rowsAt ps))
-        → ent 𝓤 (sep 𝓤 (A .dead κ) (sep 𝓤 (sem 𝓤 H A (loans ps κ γs)) (sem 𝓤 H A (ended ps γs a)))) (H .⇛ (sem 𝓤 H A (lie fullShare ps a)))
+        → ent 𝓤 (sep 𝓤 (A .dead κ) (sep 𝓤 (sem 𝓤 H A (loans ps κ γs)) (sem 𝓤 H A (ended ps γs a))))
+        (H .⇛ (sem 𝓤 H A (lie fullShare ps a)))
     all-back [] γs a = qed W (‵ (fdead κ) ∷ ‵ (loans [] κ γs) ∷ ‵ (ended [] γs a) ∷ []) ∵ updating ! $ at-once ! $ keep ! (1 ∷ []) $ done !
     all-back (p ∷ ps) γs a =
         qed W (‵ (fdead κ) ∷ ‵ (loans (p ∷ ps) κ γs) ∷ ‵ (ended (p ∷ ps) γs a) ∷ []) ∵ updating ! $
         use1 W (‵ (fdead κ) ⊛ ‵ (fdead κ)) (W .lfts .dead-dup κ) $ split ! $ move ! (2 ∷ []) $ fsplit ! $ move ! (4 ∷ []) $ fsplit ! $
         -- [the first's last value; the others'; the first loan; the others; dead; dead]
-        move ! (4 ∷ 2 ∷ 0 ∷ []) $ use3 W (later (‵ (partAt (p .row) fullShare (a .0) b (p .at)))) (ref-back 𝓤 H A W (p .row) κ (γs .0) (a .0) b
-        (p .at)) $ await ! tt $
+        move ! (4 ∷ 2 ∷ 0 ∷ []) $ use3 W (later (‵ (partAt (p .row) fullShare (a .0) b (p .at))))
+        (ref-back 𝓤 H A W (p .row) κ (γs .0) (a .0) b (p .at)) $ await ! tt $
         move ! (3 ∷ 2 ∷ 1 ∷ []) $ use3 W (later (‵ (lie fullShare ps (a .1)))) (all-back ps (γs .1) (a .1)) $ await ! tt $ at-once ! $
         move ! (1 ∷ 0 ∷ []) $ fjoin ! $ done !

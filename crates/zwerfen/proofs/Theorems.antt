@@ -29,13 +29,15 @@ set-up-good q s e = by (leb 1 q && leb q maxQueues) refl e
     by false h e = absurd (omega (arith, e))
 
 -- an event that is refused leaves the interface and every octet of the page
-pub refused-event-leaves : (r : ℕ) (s t : Interface) (page octets : List ℕ) → left r t octets ≡ eventOf s page → ackOwed < r → (t ≡ s) × (octets ≡ page)
+pub refused-event-leaves : (r : ℕ) (s t : Interface) (page octets : List ℕ) → left r t octets ≡ eventOf s page → ackOwed < r → (t ≡ s)
+    × (octets ≡ page)
 refused-event-leaves r s t page octets e high =
     let answer : r ≡ eventOf s page .answer = ap (λ (a : After). a .answer) e in
     let leaves = refused-leaves-all s page (omega (arith, answer, high)) in
     (ap (λ (a : After). a .state) e ∙ leaves .0, ap (λ (a : After). a .page) e ∙ leaves .1)
 
 -- demand 1: the queue told is below the number of queues in operation
-pub told-queue-below : (s : Interface) (packet : List ℕ) (t₀ h₀ r t h queue : ℕ) → Good s → Steers (steeredBy (s .settings) packet) t₀ h₀ r t h queue
+pub told-queue-below : (s : Interface) (packet : List ℕ) (t₀ h₀ r t h queue : ℕ) → Good s
+    → Steers (steeredBy (s .settings) packet) t₀ h₀ r t h queue
     → queue < s .settings .queues
 told-queue-below s packet t₀ h₀ r t h queue good told = rw (told .in-queue) (good-queue (s .settings) packet (good .settings))
