@@ -66,13 +66,17 @@ places o =
     ∷ place u32 (o + 1224 + 40)
     ∷ []
 
+-- the parts of the ack's side
+abbrev Sent : Type 0
+Sent = List ℕ × (ℕ × (ℕ × (ℕ × Unit {0})))
+
 abbrev pub parts : Interface → Denots (rowsAt (places 0))
 parts h =
     let s = h .settings in
     let m = h .incoming .message in
     let a = h .outgoing in
-    let sent : List ℕ × (ℕ × (ℕ × (ℕ × Unit {0}))) = (a .ack, (a .length, (a .written, (a .«rsp_prod», tt)))) in
-    let read : List ℕ × (List ℕ × (ℕ × (ℕ × (List ℕ × (ℕ × (ℕ × (ℕ × Unit {0}))))))) = (m .header, (m .payload, (m .taken, (h .incoming .«req_cons», sent)))) in
+    let sent : Sent = (a .ack, (a .length, (a .written, (a .«rsp_prod», tt)))) in
+    let read : List ℕ × (List ℕ × (ℕ × (ℕ × Sent))) = (m .header, (m .payload, (m .taken, (h .incoming .«req_cons», sent)))) in
     (s .flags, (s .key, (s .mapping .entries, (s .mapping .count, read))))
 
 -- a struct's fields as the logic has them, and in memory
