@@ -27,11 +27,6 @@ typedef struct host {
     uint8_t page[ZWERFEN_PAGE + 1]; /* one octet more, to lend a page that is too long */
 } host;
 
-static bool one_in(uint64_t chances)
-{
-    return random_below(chances) == 0;
-}
-
 static uint32_t right_size(uint32_t type)
 {
     switch (type) {
@@ -93,12 +88,6 @@ static void read_some(const guest *guest, host *host)
     uint32_t unread = host->interface.outgoing.rsp_prod - rsp_cons;
     if (!guest->reads_seldom || one_in(50))
         store32(host->page + RSP_CONS, rsp_cons + (uint32_t)random_below(unread + 1));
-}
-
-/* One octet too far or, more seldom, just not too far. */
-static uint32_t about_the_limit(void)
-{
-    return one_in(16) ? ZWERFEN_AREA : ZWERFEN_AREA + 1;
 }
 
 /* Makes one of the guest's counts wrong, or answers a wrong length of the page. */

@@ -37,3 +37,8 @@ void request(event_call *event, zwerfen_interface *interface, uint8_t *page, con
             stop_because("a whole request was not carried out");
     }
 }
+
+uint32_t about_the_limit(void)
+{
+    return one_in(16) ? ZWERFEN_AREA : ZWERFEN_AREA + 1;
+}

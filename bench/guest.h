@@ -17,4 +17,7 @@ void put_set_mapping(uint8_t *message, uint32_t queues);
 /* Has a whole request carried out, in pieces where the area cannot hold it. The benchmark ends if that goes wrong. */
 void request(event_call *event, zwerfen_interface *interface, uint8_t *page, const uint8_t *message, size_t length);
 
+/* A distance of two counts that is one octet too far or, more seldom, just not too far. */
+uint32_t about_the_limit(void);
+
 #endif

@@ -1,4 +1,4 @@
-/* The benchmark's program: pins itself to one processor and prints the three timed tables. Its argument: the rounds. */
+/* The benchmark's program: pins itself to one processor and prints the four timed tables. Its argument: the rounds. */
 #define _GNU_SOURCE
 #include "tables.h"
 
@@ -29,5 +29,6 @@ int main(int count, char **arguments)
     print_hash_table(rounds);
     print_packet_table(rounds);
     print_event_table(rounds);
+    print_guest_table(rounds);
     return 0;
 }

@@ -136,6 +136,11 @@ uint64_t random_below(uint64_t limit)
     return next_random() % limit;
 }
 
+bool one_in(uint64_t chances)
+{
+    return random_below(chances) == 0;
+}
+
 void random_octets(uint8_t *octets, size_t count)
 {
     for (size_t i = 0; i < count; i++)

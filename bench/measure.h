@@ -1,7 +1,8 @@
-/* What the three timed tables share: the clock, contests of many rounds, medians, random numbers. */
+/* What the four timed tables share: the clock, contests of many rounds, medians, random numbers. */
 #ifndef MEASURE_H
 #define MEASURE_H
 
+#include <stdbool.h>
 #include <stddef.h>
 #include <stdint.h>
 
@@ -52,6 +53,7 @@ void dismiss(contest *contests, size_t rows);
 /* The next of a series of random numbers that is the same in every run. */
 uint64_t next_random(void);
 uint64_t random_below(uint64_t limit);
+bool one_in(uint64_t chances);
 void random_octets(uint8_t *octets, size_t count);
 
 /* Ends the program: where two contestants do not do the same work there is nothing to time. */

@@ -2,6 +2,7 @@
 #include "plain.h"
 
 #include "page.h"
+#include "plain_ring.h"
 
 #include <stdbool.h>
 #include <string.h>
@@ -9,12 +10,7 @@
 #define XEN_NETIF_DEFINE_TOEPLITZ
 #include <xen/io/netif.h>
 
-enum { MESSAGE_ACK = 1, SUPPORTED_FLAGS = 15, PROTOCOL_TCP = 6 };
-
-static uint64_t least(uint64_t a, uint64_t b)
-{
-    return a < b ? a : b;
-}
+enum { PROTOCOL_TCP = 6 };
 
 uint32_t plain_set_up(zwerfen_interface *interface, uint32_t queues)
 {
@@ -26,45 +22,20 @@ uint32_t plain_set_up(zwerfen_interface *interface, uint32_t queues)
     return ZWERFEN_DONE;
 }
 
-/* The next octets of the request area, which go on at its start where they reach its end. */
-static void take(zwerfen_interface *interface, const uint8_t *requests, uint8_t *to, size_t length)
-{
-    size_t at = interface->incoming.req_cons % ZWERFEN_AREA;
-    size_t to_the_end = ZWERFEN_AREA - at;
-    if (length <= to_the_end) {
-        memcpy(to, requests + at, length);
-    } else {
-        memcpy(to, requests + at, to_the_end);
-        memcpy(to + to_the_end, requests, length - to_the_end);
-    }
-}
-
 static void count_taken(zwerfen_interface *interface, size_t length)
 {
     interface->incoming.req_cons += (uint32_t)length;
     interface->incoming.message.taken += length;
 }
 
-/* Most headers come whole and in one piece, so they are spared the copy of a length known only at run time. */
-static size_t take_header(zwerfen_interface *interface, const uint8_t *requests, size_t unread)
-{
-    uint8_t *header = interface->incoming.message.header;
-    size_t at = interface->incoming.req_cons % ZWERFEN_AREA;
-    size_t taken = interface->incoming.message.taken;
-    size_t length = least(unread, HEADER - taken);
-    if (length == HEADER && at <= ZWERFEN_AREA - HEADER)
-        memcpy(header, requests + at, HEADER);
-    else
-        take(interface, requests, header + taken, length);
-    count_taken(interface, length);
-    return length;
-}
-
 /* Reads until the request is whole or nothing is left, and says whether it is whole. */
 static bool read_request(zwerfen_interface *interface, const uint8_t *requests, size_t unread)
 {
     if (interface->incoming.message.taken < HEADER) {
-        unread -= take_header(interface, requests, unread);
+        size_t length = take_header(interface->incoming.message.header, interface->incoming.message.taken, requests,
+                                    interface->incoming.req_cons, unread);
+        count_taken(interface, length);
+        unread -= length;
         if (interface->incoming.message.taken < HEADER)
             return false;
     }
@@ -73,8 +44,8 @@ static bool read_request(zwerfen_interface *interface, const uint8_t *requests, 
     size_t length = least(unread, size - taken);
     /* Payload that has no place is counted alone. */
     if (length > 0 && taken < ZWERFEN_MAX_PAYLOAD)
-        take(interface, requests, interface->incoming.message.payload + taken,
-             least(length, ZWERFEN_MAX_PAYLOAD - taken));
+        copy_from_area(interface->incoming.message.payload + taken, requests, interface->incoming.req_cons,
+                       least(length, ZWERFEN_MAX_PAYLOAD - taken));
     count_taken(interface, length);
     return taken + length == size;
 }
@@ -152,24 +123,12 @@ static void carry_out(zwerfen_interface *interface)
     interface->incoming.message.taken = 0;
 }
 
-/* Copies by words, as the ack was stored a moment ago: a wider load would have to wait for those stores. */
-static void copy_ack(uint8_t *to, const uint8_t *from, size_t length)
-{
-    for (; length >= 8; length -= 8, to += 8, from += 8)
-        store64(to, load64(from));
-    if (length > 0)
-        memcpy(to, from, length);
-}
-
-/* As much of the ack as fits; it goes on at the start of the response area where it reaches its end. */
+/* As much of the ack as fits. */
 static uint32_t write_ack(zwerfen_interface *interface, uint8_t *responses, size_t room)
 {
     const uint8_t *ack = interface->outgoing.ack + interface->outgoing.written;
     size_t length = least(interface->outgoing.length - interface->outgoing.written, room);
-    size_t at = interface->outgoing.rsp_prod % ZWERFEN_AREA;
-    size_t end_part = least(length, ZWERFEN_AREA - at);
-    copy_ack(responses + at, ack, end_part);
-    copy_ack(responses, ack + end_part, length - end_part);
+    copy_to_area(responses, interface->outgoing.rsp_prod, ack, length, copy_words);
     interface->outgoing.written += length;
     interface->outgoing.rsp_prod += (uint32_t)length;
     return interface->outgoing.written == interface->outgoing.length ? ZWERFEN_ACK_WRITTEN : ZWERFEN_ACK_OWED;

@@ -1,10 +1,11 @@
 /*
- * Zwerfen: the host's end of one network interface's control ring, and receive-side steering.
+ * Zwerfen: both ends of one network interface's control ring, and receive-side steering.
  *
- * A guest that may be hostile shares a page with the host. The library takes the guest's requests from that page, writes
- * the acks, keeps the interface's settings, and says which queue a packet goes to. It also has the guest's writer of
- * requests and reader of acks. Every call is proved to meet its contract: no octets on the page, in a message or in a
- * packet can make it fault or fail to return.
+ * A guest and a host share a page, and neither has to trust the other. At the host's end the library takes the guest's
+ * requests from that page, writes the acks, keeps the interface's settings, and says which queue a packet goes to. At the
+ * guest's end it writes a driver's request to the page, as much as fits at a time, and reads the ack. The writer of requests
+ * and the reader of acks can also be called by themselves. Every call is proved to meet its contract: no octets on the page,
+ * in a message or in a packet can make it fault or fail to return.
  *
  * Memory. The library allocates nothing, keeps nothing between calls and has no global state; of the C library it needs
  * memcpy and memset alone. Whatever a call is given stays the caller's: it is read or written during the call and not kept.
@@ -12,7 +13,8 @@
  * A pointer may be null where its length is 0, and nowhere else.
  *
  * Results. A call answers a number. Values come through the places that are lent for them. Where a call is refused, each
- * such place, and the interface, page or buffer, is as it was before the call.
+ * such place, and the interface, guest, page or buffer, is as it was before the call, but for one case: where an event of
+ * the guest refuses an ack, page and places are as they were, and the guest has failed.
  */
 #ifndef ZWERFEN_H
 #define ZWERFEN_H
@@ -27,10 +29,15 @@ extern "C" {
 #define ZWERFEN_STATIC_ASSERT(condition, message) _Static_assert(condition, message)
 #endif
 
-/* What an event answers. */
+/* What an event of the host answers. */
 #define ZWERFEN_WAITING 0u     /* no whole request yet */
 #define ZWERFEN_ACK_WRITTEN 1u /* the ack is wholly written */
 #define ZWERFEN_ACK_OWED 2u    /* octets of the ack are still owed: call again once the guest has read some */
+
+/* What a start and an event of the guest answer. */
+#define ZWERFEN_REQUEST_PENDING 0u /* the request is wholly written and there is no ack yet; or there is no request */
+#define ZWERFEN_ACK_READ 1u        /* the ack is read, and its status is handed back; only an event answers this */
+#define ZWERFEN_REQUEST_OWED 2u    /* octets of the request are still owed: call again once the host has read some */
 
 /* What the packet question answers. */
 #define ZWERFEN_UNHASHED 0u /* no hash type is used for the packet; its queue is 0 */
@@ -40,16 +47,17 @@ extern "C" {
 #define ZWERFEN_DONE 0u
 
 /* Refusals. */
-#define ZWERFEN_PAGE_LENGTH 3u    /* the page is not 4,096 octets */
-#define ZWERFEN_REQUEST_COUNT 4u  /* req_prod less the own req_cons is above 1,024 */
-#define ZWERFEN_RESPONSE_COUNT 5u /* the own rsp_prod less rsp_cons is above 1,024 */
-#define ZWERFEN_QUEUES 6u         /* 0 queues, or more than 64 */
-#define ZWERFEN_INPUT_LENGTH 7u   /* the hash input is longer than 36 octets */
-#define ZWERFEN_KEY_LENGTH 8u     /* the key is not 40 octets */
-#define ZWERFEN_HASH_TYPE 9u      /* the hash type is above 3 */
-#define ZWERFEN_BUFFER_LENGTH 10u /* the buffer is shorter than the message */
-#define ZWERFEN_VALUE 11u         /* flags above 15, or a mapping whose length is not 1, 2, 4, .. 128 */
-#define ZWERFEN_NOT_AN_ACK 12u    /* not an ack to this request */
+#define ZWERFEN_PAGE_LENGTH 3u          /* the page is not 4,096 octets */
+#define ZWERFEN_REQUEST_COUNT 4u        /* req_prod less req_cons is above 1,024; one of the two is the caller's own */
+#define ZWERFEN_RESPONSE_COUNT 5u       /* rsp_prod less rsp_cons is above 1,024; one of the two is the caller's own */
+#define ZWERFEN_QUEUES 6u               /* 0 queues, or more than 64 */
+#define ZWERFEN_INPUT_LENGTH 7u         /* the hash input is longer than 36 octets */
+#define ZWERFEN_KEY_LENGTH 8u           /* the key is not 40 octets */
+#define ZWERFEN_HASH_TYPE 9u            /* the hash type is above 3 */
+#define ZWERFEN_BUFFER_LENGTH 10u       /* the buffer is shorter than the message */
+#define ZWERFEN_VALUE 11u               /* flags above 15, or a mapping whose length is not 1, 2, 4, .. 128 */
+#define ZWERFEN_NOT_AN_ACK 12u          /* not an ack to this request; of a guest, now or at an earlier call */
+#define ZWERFEN_REQUEST_OUTSTANDING 13u /* a request is begun while another is outstanding */
 
 /* Hash types. The flag of type t is 1 << t. */
 #define ZWERFEN_IPV4 0u
@@ -68,6 +76,11 @@ extern "C" {
 #define ZWERFEN_INVALID_PARAMETER 2u
 #define ZWERFEN_BUFFER_OVERFLOW 3u
 
+/* Phases of a guest. */
+#define ZWERFEN_GUEST_IDLE 0u        /* no request is outstanding */
+#define ZWERFEN_GUEST_OUTSTANDING 1u /* one is */
+#define ZWERFEN_GUEST_FAILED 2u      /* an ack was refused; only a new setup ends this */
+
 /* Sizes in octets, and limits. */
 #define ZWERFEN_PAGE 4096u
 #define ZWERFEN_AREA 1024u
@@ -75,7 +88,9 @@ extern "C" {
 #define ZWERFEN_MAX_INPUT 36u
 #define ZWERFEN_MAX_ENTRIES 128u
 #define ZWERFEN_MAX_PAYLOAD 1024u
+#define ZWERFEN_MAX_REQUEST 1032u
 #define ZWERFEN_MAX_ACK 24u
+#define ZWERFEN_MAX_ACK_PAYLOAD 16u
 #define ZWERFEN_MAX_QUEUES 64u
 
 /*
@@ -116,6 +131,34 @@ ZWERFEN_STATIC_ASSERT(sizeof(zwerfen_settings) == 171, "zwerfen_settings has no 
 ZWERFEN_STATIC_ASSERT(offsetof(zwerfen_interface, incoming) == 176, "incoming stands behind 5 octets of padding");
 ZWERFEN_STATIC_ASSERT(offsetof(zwerfen_interface, outgoing) == 1224, "outgoing stands behind 4 octets of padding");
 ZWERFEN_STATIC_ASSERT(sizeof(zwerfen_interface) == 1272, "zwerfen_interface is 1,272 octets");
+
+/*
+ * The guest's end of one ring, in the driver's memory. zwerfen_guest_set_up fills it, and the other calls of a guest change
+ * it. A driver may read it and may copy it while no call runs on it; it must not write into it. Here too, a state that did
+ * not come from these calls is presumed away.
+ */
+typedef struct zwerfen_guest {
+    uint32_t phase;
+    uint8_t request[ZWERFEN_MAX_REQUEST]; /* the present request, or the last one */
+    size_t length;                        /* octets of the request */
+    size_t written;                       /* how many of them are on the page */
+    uint32_t req_prod;
+    uint8_t header[8]; /* of the ack, as is the payload */
+    uint8_t payload[ZWERFEN_MAX_ACK_PAYLOAD];
+    uint64_t taken; /* octets read of the present ack */
+    uint32_t rsp_cons;
+} zwerfen_guest;
+
+ZWERFEN_STATIC_ASSERT(offsetof(zwerfen_guest, phase) == 0, "phase stands first");
+ZWERFEN_STATIC_ASSERT(offsetof(zwerfen_guest, request) == 4, "request stands behind phase");
+ZWERFEN_STATIC_ASSERT(offsetof(zwerfen_guest, length) == 1040, "length stands behind 4 octets of padding");
+ZWERFEN_STATIC_ASSERT(offsetof(zwerfen_guest, written) == 1048, "written stands behind length");
+ZWERFEN_STATIC_ASSERT(offsetof(zwerfen_guest, req_prod) == 1056, "req_prod stands behind written");
+ZWERFEN_STATIC_ASSERT(offsetof(zwerfen_guest, header) == 1060, "header stands behind req_prod");
+ZWERFEN_STATIC_ASSERT(offsetof(zwerfen_guest, payload) == 1068, "payload stands behind header");
+ZWERFEN_STATIC_ASSERT(offsetof(zwerfen_guest, taken) == 1088, "taken stands behind 4 octets of padding");
+ZWERFEN_STATIC_ASSERT(offsetof(zwerfen_guest, rsp_cons) == 1096, "rsp_cons stands behind taken");
+ZWERFEN_STATIC_ASSERT(sizeof(zwerfen_guest) == 1104, "zwerfen_guest is 1,104 octets");
 
 /* ---- The host ---- */
 
@@ -168,7 +211,56 @@ uint32_t zwerfen_hash(const uint8_t *key, size_t key_length, const uint8_t *inpu
  */
 uint32_t zwerfen_two_way(const uint8_t *key, size_t key_length, uint32_t hash_type, uint32_t *meet, size_t *bit);
 
-/* ---- The guest ---- */
+/* ---- The guest's end of the ring ---- */
+
+/*
+ * A driver sets up a guest once for a ring, starts a request, and then calls zwerfen_guest_event each time the host has
+ * moved its counts, until ZWERFEN_ACK_READ hands back the status of the request. Then it may start the next one.
+ *
+ * The page is the driver's own copy of the shared page: copy it before a call, so that it is still during the call, and copy
+ * back afterwards only what the guest owns: req_prod (octets 4 to 7), rsp_cons (8 to 11) and the request area (16 to 1039).
+ * Copy the counts last, for they tell the host that the octets are there. The counts req_prod and rsp_cons on the page are
+ * never read; a call that answers ZWERFEN_REQUEST_PENDING, ZWERFEN_ACK_READ or ZWERFEN_REQUEST_OWED writes both. Then send
+ * the host an event, for it may have octets to read, or room for octets of an ack that it owes.
+ *
+ * Every call but the setup refuses first by ZWERFEN_PAGE_LENGTH, ZWERFEN_REQUEST_COUNT, ZWERFEN_RESPONSE_COUNT, and by
+ * ZWERFEN_NOT_AN_ACK if an ack has been refused since setup, in this order.
+ */
+
+/*
+ * Sets up a guest: no request, nothing written and nothing read, both own counts 0, as on a zeroed page. What was in *guest
+ * before does not matter. Refuses nothing.
+ */
+void zwerfen_guest_set_up(zwerfen_guest *guest);
+
+/*
+ * Each starts one of the four requests: writes as much of it as fits into the request area, and reads nothing. Key and
+ * entries are copied, so they need not stay. Queue numbers are not judged here; the host does.
+ *
+ * Answers ZWERFEN_REQUEST_PENDING or ZWERFEN_REQUEST_OWED. Refuses, behind what every call refuses, by
+ * ZWERFEN_REQUEST_OUTSTANDING, then by ZWERFEN_KEY_LENGTH (set key) or ZWERFEN_VALUE (set flags, set mapping).
+ */
+uint32_t zwerfen_guest_start_get_flags(zwerfen_guest *guest, uint8_t *page, size_t page_length);
+uint32_t zwerfen_guest_start_set_flags(zwerfen_guest *guest, uint8_t *page, size_t page_length, uint64_t flags);
+uint32_t zwerfen_guest_start_set_key(zwerfen_guest *guest, uint8_t *page, size_t page_length, const uint8_t *key,
+                                     size_t key_length);
+uint32_t zwerfen_guest_start_set_mapping(zwerfen_guest *guest, uint8_t *page, size_t page_length, const uint64_t *entries,
+                                         size_t entry_count);
+
+/*
+ * One event of the guest. If octets of the request are owed, as many are written as fit, and nothing is read. Otherwise
+ * octets of the ack are read until it is whole or none is left. Without a request nothing is read.
+ *
+ * Answers ZWERFEN_REQUEST_PENDING or ZWERFEN_REQUEST_OWED, with *status and *flags as they were; or ZWERFEN_ACK_READ, with
+ * *status, and for a get flags with status 0 also with *flags, those that the host supports; else *flags is as it was.
+ *
+ * An ack that zwerfen_read_ack refuses, or whose header has a size other than 8 and 16, is refused by ZWERFEN_NOT_AN_ACK,
+ * with page and own counts as they were. The guest has then failed, and each later call with good counts is refused alike
+ * until a new setup, for which host and guest must both begin again on a zeroed page.
+ */
+uint32_t zwerfen_guest_event(zwerfen_guest *guest, uint8_t *page, size_t page_length, uint32_t *status, uint32_t *flags);
+
+/* ---- The guest's messages, by themselves ---- */
 
 /*
  * The four requests. Each is put at the start of the buffer, *length is its number of octets, and the octets behind it stay

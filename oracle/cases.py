@@ -21,3 +21,10 @@ def digest(data):
     for octet in data:
         total = (total * 257 + octet + 1) % 2**32
     return f"{total:08x}"
+
+
+def lines(cases, kept, act, printed):
+    """What a program prints that acts on one state, which it keeps, case by case."""
+    for kind, body in cases:
+        answer = act(kept, kind, body)
+        yield printed(kept, kind, body, answer)

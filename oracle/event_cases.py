@@ -6,7 +6,7 @@ and one buffer of 4,160 octets, at its start all zero, whose first octets are th
 
 import packets
 import ring
-from cases import digest, program_files
+from cases import digest, lines, program_files
 from messages import GET_FLAGS, SET_FLAGS, SET_KEY, SET_MAPPING, message, number, octets
 from packet_cases import one_of_each
 from seeds import seeded, seeded_below
@@ -201,10 +201,7 @@ def printed(kept, kind, body, answer):
 
 
 def expected(cases):
-    kept = at_start()
-    for kind, body in cases:
-        answer = act(kept, kind, body)
-        yield printed(kept, kind, body, answer)
+    return lines(cases, at_start(), act, printed)
 
 
 # Document 01's worked lines.

@@ -8,12 +8,13 @@ import pathlib
 import sys
 
 import event_cases
+import guest_cases
 import messages_cases
 import packet_cases
 import toeplitz_cases
 
 CRATES = pathlib.Path(__file__).resolve().parent.parent / "crates"
-PARTS = [toeplitz_cases, messages_cases, packet_cases, event_cases]
+PARTS = [toeplitz_cases, messages_cases, packet_cases, event_cases, guest_cases]
 
 
 def main(words):

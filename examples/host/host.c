@@ -1,4 +1,4 @@
-/* A host of one interface and a guest played by hand beside it, to show how the library's calls belong together. */
+/* A host of one interface and a guest that take turns on one page, to show how the library's calls belong together. */
 #include <inttypes.h>
 #include <stdarg.h>
 #include <stdbool.h>
@@ -11,26 +11,23 @@
 /* Where the counts and the areas stand on the shared page. */
 enum { REQ_CONS = 0, REQ_PROD = 4, RSP_CONS = 8, RSP_PROD = 12, REQUESTS = 16, RESPONSES = 1040 };
 
-enum { COUNT = 4, HEADER = 8, QUEUES = 4, LONGEST_PACKET = 64 };
-
-/* The guest has its own two counts, as the host has its own two in the interface. */
-struct guest {
-    uint32_t req_prod;
-    uint32_t rsp_cons;
-};
+enum { COUNT = 4, QUEUES = 4, LONGEST_PACKET = 64 };
 
 /* Both ends of the ring, and the page that both can write at any time. */
 struct ring {
     uint8_t shared_page[ZWERFEN_PAGE];
     zwerfen_interface host;
-    struct guest guest;
+    zwerfen_guest guest;
 };
 
+/* A request that a driver wants to make: its type, and what a request of this type sets. */
 struct request {
     const char *name;
     uint32_t type;
-    uint8_t octets[HEADER + ZWERFEN_MAX_PAYLOAD];
-    size_t length;
+    uint64_t flags;
+    const uint8_t *key;
+    const uint64_t *entries;
+    size_t entry_count;
 };
 
 struct packet {
@@ -72,24 +69,6 @@ static void must_answer(const char *call, uint32_t answer, uint32_t expected)
     must(answer == expected, "%s answered %" PRIu32 ", and %" PRIu32 " was expected", call, answer, expected);
 }
 
-/* ---- Counts on the page: four octets, the lowest first ---- */
-
-static uint32_t read_count(const uint8_t *page, size_t at)
-{
-    uint32_t count = 0;
-    for (size_t i = COUNT; i > 0; i--) {
-        count = count << 8 | page[at + i - 1];
-    }
-    return count;
-}
-
-static void write_count(uint8_t *page, size_t at, uint32_t count)
-{
-    for (size_t i = 0; i < COUNT; i++) {
-        page[at + i] = (uint8_t)(count >> 8 * i);
-    }
-}
-
 /* ---- The host ---- */
 
 /*
@@ -120,93 +99,76 @@ static struct steering host_steer(const zwerfen_interface *host, const struct pa
 
 /* ---- The guest ---- */
 
-/* Puts octets behind those that are in the request area; the octet with count c stands at c modulo the area's size. */
-static void guest_send(struct ring *ring, const uint8_t *octets, size_t length)
+/* What the guest owns. The counts come last: only then are the octets there for the host. */
+static void guest_copy_back(struct ring *ring, const uint8_t *page)
 {
-    uint32_t unread = ring->guest.req_prod - read_count(ring->shared_page, REQ_CONS);
-    must(length <= ZWERFEN_AREA - unread, "the request area has no place for %zu octets", length);
-    for (size_t i = 0; i < length; i++) {
-        ring->shared_page[REQUESTS + ring->guest.req_prod % ZWERFEN_AREA] = octets[i];
-        ring->guest.req_prod++;
+    memcpy(ring->shared_page + REQUESTS, page + REQUESTS, ZWERFEN_AREA);
+    memcpy(ring->shared_page + REQ_PROD, page + REQ_PROD, COUNT);
+    memcpy(ring->shared_page + RSP_CONS, page + RSP_CONS, COUNT);
+}
+
+static uint32_t start(zwerfen_guest *guest, uint8_t *page, const struct request *request)
+{
+    switch (request->type) {
+    case ZWERFEN_SET_FLAGS:
+        return zwerfen_guest_start_set_flags(guest, page, ZWERFEN_PAGE, request->flags);
+    case ZWERFEN_SET_KEY:
+        return zwerfen_guest_start_set_key(guest, page, ZWERFEN_PAGE, request->key, ZWERFEN_KEY);
+    case ZWERFEN_SET_MAPPING:
+        return zwerfen_guest_start_set_mapping(guest, page, ZWERFEN_PAGE, request->entries, request->entry_count);
+    default:
+        return zwerfen_guest_start_get_flags(guest, page, ZWERFEN_PAGE);
     }
-    /* The count comes last: only then are the octets there for the host. */
-    write_count(ring->shared_page, REQ_PROD, ring->guest.req_prod);
 }
 
-/* Takes every unread octet from the response area, and gives the host its place back by advancing rsp_cons. */
-static size_t guest_receive(struct ring *ring, uint8_t *octets, size_t most)
+/* The guest works on a copy as the host does, because it need not trust the host either. */
+static uint32_t guest_start(struct ring *ring, const struct request *request)
 {
-    size_t length = 0;
-    while (ring->guest.rsp_cons != read_count(ring->shared_page, RSP_PROD)) {
-        must(length < most, "more than %zu octets came as one ack", most);
-        octets[length++] = ring->shared_page[RESPONSES + ring->guest.rsp_cons % ZWERFEN_AREA];
-        ring->guest.rsp_cons++;
-    }
-    write_count(ring->shared_page, RSP_CONS, ring->guest.rsp_cons);
-    return length;
+    uint8_t page[ZWERFEN_PAGE];
+    memcpy(page, ring->shared_page, sizeof page);
+    uint32_t answer = start(&ring->guest, page, request);
+    guest_copy_back(ring, page);
+    return answer;
 }
 
-static struct request get_flags(const char *name)
+static uint32_t guest_event(struct ring *ring, uint32_t *status, uint32_t *flags)
 {
-    struct request request = {.name = name, .type = ZWERFEN_GET_FLAGS};
-    uint32_t answer = zwerfen_write_get_flags(request.octets, sizeof request.octets, &request.length);
-    must_answer("zwerfen_write_get_flags", answer, ZWERFEN_DONE);
-    return request;
-}
-
-static struct request set_flags(const char *name, uint64_t flags)
-{
-    struct request request = {.name = name, .type = ZWERFEN_SET_FLAGS};
-    uint32_t answer = zwerfen_write_set_flags(request.octets, sizeof request.octets, flags, &request.length);
-    must_answer("zwerfen_write_set_flags", answer, ZWERFEN_DONE);
-    return request;
-}
-
-static struct request set_key(const char *name, const uint8_t *key)
-{
-    struct request request = {.name = name, .type = ZWERFEN_SET_KEY};
-    uint32_t answer = zwerfen_write_set_key(request.octets, sizeof request.octets, key, ZWERFEN_KEY, &request.length);
-    must_answer("zwerfen_write_set_key", answer, ZWERFEN_DONE);
-    return request;
-}
-
-static struct request set_mapping(const char *name, const uint64_t *entries, size_t count)
-{
-    struct request request = {.name = name, .type = ZWERFEN_SET_MAPPING};
-    uint32_t answer =
-        zwerfen_write_set_mapping(request.octets, sizeof request.octets, entries, count, &request.length);
-    must_answer("zwerfen_write_set_mapping", answer, ZWERFEN_DONE);
-    return request;
+    uint8_t page[ZWERFEN_PAGE];
+    memcpy(page, ring->shared_page, sizeof page);
+    uint32_t answer = zwerfen_guest_event(&ring->guest, page, sizeof page, status, flags);
+    guest_copy_back(ring, page);
+    return answer;
 }
 
 /* ---- A request and its ack ---- */
 
-/* Sends a request in pieces, with an event after each; the last piece makes it whole. Gives the number of events. */
-static unsigned send_in_pieces(struct ring *ring, const struct request *request, size_t piece)
+/*
+ * Has both ends take turns from the start's answer on, until the guest has read its ack. While octets of the request
+ * are owed, the host can only wait for them; after that it carries the request out. Gives the number of host events.
+ */
+static unsigned take_turns(struct ring *ring, uint32_t answer, uint32_t *status, uint32_t *flags)
 {
     unsigned events = 0;
-    for (size_t sent = 0; sent < request->length; sent += piece) {
-        size_t left = request->length - sent;
-        guest_send(ring, request->octets + sent, left < piece ? left : piece);
-        must_answer("zwerfen_event", host_event(ring), left > piece ? ZWERFEN_WAITING : ZWERFEN_ACK_WRITTEN);
+    while (answer == ZWERFEN_REQUEST_OWED) {
+        must_answer("zwerfen_event", host_event(ring), ZWERFEN_WAITING);
+        answer = guest_event(ring, status, flags);
         events++;
     }
-    return events;
+    must_answer("the guest's last call that writes", answer, ZWERFEN_REQUEST_PENDING);
+    must_answer("zwerfen_event", host_event(ring), ZWERFEN_ACK_WRITTEN);
+    must_answer("zwerfen_guest_event", guest_event(ring, status, flags), ZWERFEN_ACK_READ);
+    return events + 1;
 }
 
 /* Has a request carried out and its ack read, and prints a line about both. */
-static void ask(struct ring *ring, struct request request, size_t piece, uint32_t expected_status)
+static void ask(struct ring *ring, struct request request, uint32_t expected_status)
 {
     zwerfen_settings before = ring->host.settings;
-    unsigned events = send_in_pieces(ring, &request, piece);
-    uint8_t ack[ZWERFEN_MAX_ACK];
-    size_t ack_length = guest_receive(ring, ack, sizeof ack);
     uint32_t status, flags;
-    uint32_t answer = zwerfen_read_ack(request.type, ack, ack_length, &status, &flags);
-    must_answer("zwerfen_read_ack", answer, ZWERFEN_DONE);
+    unsigned events = take_turns(ring, guest_start(ring, &request), &status, &flags);
     must(status == expected_status, "%s: the ack has status %" PRIu32, request.name, status);
 
-    printf("  %-40s %6zu %6u    status %" PRIu32, request.name, request.length, events, status);
+    printf("  %-40s %6zu %6u    status %" PRIu32, request.name, ring->guest.length, events, status);
     if (request.type == ZWERFEN_GET_FLAGS) {
         must(flags == 15, "the host supports all four hash types");
         printf(", flags %" PRIu32 " are supported", flags);
@@ -216,6 +178,30 @@ static void ask(struct ring *ring, struct request request, size_t piece, uint32_
         printf(", and nothing has changed");
     }
     putchar('\n');
+}
+
+static void ask_to_get_flags(struct ring *ring)
+{
+    ask(ring, (struct request){.name = "get flags", .type = ZWERFEN_GET_FLAGS}, ZWERFEN_SUCCESS);
+}
+
+static void ask_to_set_flags(struct ring *ring, const char *name, uint64_t flags)
+{
+    ask(ring, (struct request){.name = name, .type = ZWERFEN_SET_FLAGS, .flags = flags}, ZWERFEN_SUCCESS);
+}
+
+static void ask_to_set_key(struct ring *ring, const char *key_name, const uint8_t *key)
+{
+    char name[64];
+    snprintf(name, sizeof name, "set key %s", key_name);
+    ask(ring, (struct request){.name = name, .type = ZWERFEN_SET_KEY, .key = key}, ZWERFEN_SUCCESS);
+}
+
+static void ask_to_set_mapping(struct ring *ring, const char *name, const uint64_t *entries, size_t count,
+                               uint32_t expected_status)
+{
+    struct request request = {.name = name, .type = ZWERFEN_SET_MAPPING, .entries = entries, .entry_count = count};
+    ask(ring, request, expected_status);
 }
 
 /* ---- Packets ---- */
@@ -336,6 +322,7 @@ static void set_up(struct ring *ring)
 {
     memset(ring, 0, sizeof *ring);
     must_answer("zwerfen_set_up", zwerfen_set_up(&ring->host, QUEUES), ZWERFEN_DONE);
+    zwerfen_guest_set_up(&ring->guest);
     printf("An interface with %d queues is set up.\n", QUEUES);
 }
 
@@ -348,14 +335,27 @@ static void print_request_heading(void)
 static void ask_for_settings(struct ring *ring, const char *key_name, const uint8_t *key)
 {
     static const uint64_t good[] = {0, 1, 2, 3}, wrong[] = {0, 1, 2, 4};
-    char name[64];
-    snprintf(name, sizeof name, "set key %s", key_name);
     print_request_heading();
-    ask(ring, get_flags("get flags"), ZWERFEN_AREA, ZWERFEN_SUCCESS);
-    ask(ring, set_key(name, key), ZWERFEN_AREA, ZWERFEN_SUCCESS);
-    ask(ring, set_flags("set flags 15", 15), ZWERFEN_AREA, ZWERFEN_SUCCESS);
-    ask(ring, set_mapping("set mapping 0 1 2 3", good, 4), ZWERFEN_AREA, ZWERFEN_SUCCESS);
-    ask(ring, set_mapping("set mapping 0 1 2 4", wrong, 4), ZWERFEN_AREA, ZWERFEN_INVALID_PARAMETER);
+    ask_to_get_flags(ring);
+    ask_to_set_key(ring, key_name, key);
+    ask_to_set_flags(ring, "set flags 15", 15);
+    ask_to_set_mapping(ring, "set mapping 0 1 2 3", good, 4, ZWERFEN_SUCCESS);
+    ask_to_set_mapping(ring, "set mapping 0 1 2 4", wrong, 4, ZWERFEN_INVALID_PARAMETER);
+}
+
+/*
+ * Another key, and the same queues in the longest mapping. With its header that request is 8 octets longer than the
+ * request area, so its start leaves octets owed, and the two ends need two rounds.
+ */
+static void ask_for_other_settings(struct ring *ring, const char *key_name, const uint8_t *key)
+{
+    uint64_t entries[ZWERFEN_MAX_ENTRIES];
+    for (size_t i = 0; i < ZWERFEN_MAX_ENTRIES; i++) {
+        entries[i] = i % QUEUES;
+    }
+    print_request_heading();
+    ask_to_set_key(ring, key_name, key);
+    ask_to_set_mapping(ring, "set mapping 0 1 2 3 x 32", entries, ZWERFEN_MAX_ENTRIES, ZWERFEN_SUCCESS);
 }
 
 int main(void)
@@ -369,10 +369,7 @@ int main(void)
     set_up(&ring);
     ask_for_settings(&ring, "6d 5a x 20", two_way_key);
     steer_packets(&ring.host, "6d 5a x 20", true);
-
-    /* A request may come in any pieces: here 7 octets at a time, so that even the header is cut. */
-    print_request_heading();
-    ask(&ring, set_key("set key 00 01 .. 27, 7 octets at a time", counting_key), 7, ZWERFEN_SUCCESS);
+    ask_for_other_settings(&ring, "00 01 .. 27", counting_key);
     steer_packets(&ring.host, "00 01 .. 27", false);
 
     printf("\n%-42s", "Do both directions always meet?");

@@ -1,10 +1,12 @@
 //! One comparison for each call: the library and the rules get the same input and must leave the same behind.
 
+pub mod guest;
+
 use std::collections::BTreeMap;
 use std::fmt;
 
 use crate::inputs::Random;
-use crate::library::{self, Room, Slice, SliceMut};
+use crate::library::{self, InterfaceRoom, Slice, SliceMut};
 use crate::rules::{self, number, Rules, Steered};
 
 /// What a call other than an event and the packet question answers where it is not refused.
@@ -25,10 +27,16 @@ pub enum Call {
     WriteSetKey,
     WriteSetMapping,
     ReadAck,
+    GuestSetUp,
+    GuestStartGetFlags,
+    GuestStartSetFlags,
+    GuestStartSetKey,
+    GuestStartSetMapping,
+    GuestEvent,
 }
 
 impl Call {
-    pub const ALL: [Call; 10] = [
+    pub const ALL: [Call; 16] = [
         Call::SetUp,
         Call::Event,
         Call::Steer,
@@ -39,6 +47,12 @@ impl Call {
         Call::WriteSetKey,
         Call::WriteSetMapping,
         Call::ReadAck,
+        Call::GuestSetUp,
+        Call::GuestStartGetFlags,
+        Call::GuestStartSetFlags,
+        Call::GuestStartSetKey,
+        Call::GuestStartSetMapping,
+        Call::GuestEvent,
     ];
 
     /// The name of a call, and every answer that it has.
@@ -64,6 +78,13 @@ impl Call {
             Call::WriteSetKey => ("zwerfen_write_set_key", &[DONE, rules::KEY_LENGTH, rules::BUFFER_LENGTH]),
             Call::WriteSetMapping => ("zwerfen_write_set_mapping", &[DONE, rules::BUFFER_LENGTH, rules::VALUE]),
             Call::ReadAck => ("zwerfen_read_ack", &[DONE, rules::NOT_AN_ACK]),
+            Call::GuestSetUp => ("zwerfen_guest_set_up", &[DONE]),
+            // The numbers of the rules: 13 is of starts alone, 1 of events alone, and 8 and 11 are the writer's.
+            Call::GuestStartGetFlags => ("zwerfen_guest_start_get_flags", &[0, 2, 3, 4, 5, 12, 13]),
+            Call::GuestStartSetFlags => ("zwerfen_guest_start_set_flags", &[0, 2, 3, 4, 5, 11, 12, 13]),
+            Call::GuestStartSetKey => ("zwerfen_guest_start_set_key", &[0, 2, 3, 4, 5, 8, 12, 13]),
+            Call::GuestStartSetMapping => ("zwerfen_guest_start_set_mapping", &[0, 2, 3, 4, 5, 11, 12, 13]),
+            Call::GuestEvent => ("zwerfen_guest_event", &[0, 1, 2, 3, 4, 5, 12]),
         }
     }
 }
@@ -145,6 +166,8 @@ macro_rules! facts {
     ($(($name:literal, $value:expr)),* $(,)?) => { vec![$(($name, Value::from($value))),*] };
 }
 
+use facts;
+
 /// What a call left: its answer, and what is in each place and slice that it was lent.
 type Left = (u32, Facts);
 
@@ -154,16 +177,49 @@ pub struct Difference {
     pub words: String,
 }
 
+/// A page as the library gets it: null, or with octets behind it that no call may touch.
+struct Lent {
+    before: Vec<u8>,
+    is_null: bool,
+    behind: Vec<u8>,
+    octets: Vec<u8>,
+}
+
+impl Lent {
+    /// The page for the library.
+    fn page(&mut self) -> SliceMut<'_, u8> {
+        if self.is_null {
+            None
+        } else {
+            Some(&mut self.octets[..self.before.len()])
+        }
+    }
+
+    /// The page as it was given.
+    fn given(&self) -> Slice<'_, u8> {
+        if self.is_null {
+            None
+        } else {
+            Some(&self.before)
+        }
+    }
+
+    /// What the rules leave of the page, and what is behind it.
+    fn left_by_rules(&self, page: &[u8]) -> Vec<u8> {
+        [page, &self.behind].concat()
+    }
+}
+
 /// One interface twice: as the library keeps it and as the rules do.
 pub struct Both {
-    room: Box<Room>,
+    room: Box<InterfaceRoom>,
     pub model: rules::Interface,
 }
 
 impl Both {
     /// Puts other own counts into an interface that has just been set up: events could have brought it there.
     pub fn start_at(&mut self, req_cons: u32, rsp_prod: u32) {
-        let interface = self.room.interface_mut();
+        let interface = self.room.fields_mut();
         (interface.incoming.req_cons, interface.outgoing.rsp_prod) = (req_cons, rsp_prod);
         (self.model.req_cons, self.model.rsp_prod) = (req_cons, rsp_prod);
     }
@@ -205,18 +261,18 @@ fn fields_of(interface: &rules::Interface) -> Facts {
     ]
 }
 
-fn fields_in(room: &Room) -> Facts {
-    match settled(room.interface()) {
+fn fields_in(room: &InterfaceRoom) -> Facts {
+    match settled(room.fields()) {
         Some(interface) => fields_of(&interface),
         None => facts![("interface with a length outside of its array", room.octets())],
     }
 }
 
-/// What an event leaves: the fields of the interface or, where it is refused, all octets of it; and the page.
-fn left_by_event(answer: u32, interface: &[u8], fields: impl FnOnce() -> Facts, page: &[u8]) -> Left {
-    let mut facts = if answer >= rules::PAGE_LENGTH { facts![("interface", interface)] } else { fields() };
+/// What a call on a page leaves: the fields of the state or, where they must stay, all octets of it; and the page.
+fn left_on_page(stays: bool, state: &[u8], fields: impl FnOnce() -> Facts, page: &[u8]) -> Facts {
+    let mut facts = if stays { facts![("state", state)] } else { fields() };
     facts.extend(facts![("page and what is behind it", page)]);
-    (answer, facts)
+    facts
 }
 
 /// The comparisons, with what they have counted so far.
@@ -271,9 +327,15 @@ impl<'a> Comparison<'a> {
         self.random.octets(length)
     }
 
+    /// A page to lend to the library, with a copy of it.
+    fn lend(&mut self, page: &[u8], is_null: bool) -> Lent {
+        let behind = self.behind();
+        Lent { before: page.to_vec(), is_null, octets: [page, &behind].concat(), behind }
+    }
+
     /// Setup of both; gives the interface unless it is refused.
     pub fn set_up(&mut self, queues: u32) -> Result<Option<Both>, Difference> {
-        let mut room = Room::filled(self.random.next() as u8);
+        let mut room = InterfaceRoom::filled(self.random.next() as u8);
         let before = room.octets().to_vec();
         let answer = library::set_up(&mut room, queues);
         let by_library = if answer == DONE { fields_in(&room) } else { facts![("interface", room.octets())] };
@@ -291,20 +353,19 @@ impl<'a> Comparison<'a> {
     pub fn event(&mut self, both: &mut Both, page: SliceMut<u8>) -> Result<u32, Difference> {
         let is_null = page.is_none();
         let page = page.unwrap_or_default();
-        let (page_before, interface_before) = (page.to_vec(), both.room.octets().to_vec());
-        let behind = self.behind();
-        let mut lent = [&*page, &behind].concat();
+        let interface_before = both.room.octets().to_vec();
+        let mut lent = self.lend(page, is_null);
 
-        let lent_page = if is_null { None } else { Some(&mut lent[..page.len()]) };
-        let answer = library::event(&mut both.room, lent_page);
-        let by_library = left_by_event(answer, both.room.octets(), || fields_in(&both.room), &lent);
+        let answer = library::event(&mut both.room, lent.page());
+        let is_refused = |answer| answer >= rules::PAGE_LENGTH;
+        let room = &both.room;
+        let by_library = left_on_page(is_refused(answer), room.octets(), || fields_in(room), &lent.octets);
         let rules_answer = self.rules.event(&mut both.model, page);
-        let rules_page = [&*page, &behind].concat();
-        let by_rules = left_by_event(rules_answer, &interface_before, || fields_of(&both.model), &rules_page);
+        let (model, rules_page) = (&both.model, lent.left_by_rules(page));
+        let by_rules = left_on_page(is_refused(rules_answer), &interface_before, || fields_of(model), &rules_page);
 
-        let page_given = if is_null { None } else { Some(&page_before[..]) };
-        let input = || facts![("interface", &interface_before[..]), ("page", page_given)];
-        self.compare(Call::Event, input, by_rules, by_library)?;
+        let input = || facts![("interface", &interface_before[..]), ("page", lent.given())];
+        self.compare(Call::Event, input, (rules_answer, by_rules), (answer, by_library))?;
         Ok(answer)
     }
 

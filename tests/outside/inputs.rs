@@ -1,6 +1,6 @@
 //! A seeded generator of inputs: keys, hash inputs, packets, requests and acks, good ones and damaged ones.
 
-use crate::rules::{message, GET_FLAGS, KEY, MAX_FLAGS, SET_FLAGS, SET_KEY, SET_MAPPING};
+use crate::rules::{message, set_count, GET_FLAGS, KEY, MAX_FLAGS, PAGE, SET_FLAGS, SET_KEY, SET_MAPPING};
 
 /// A splitmix64 generator; the seed settles every number.
 pub struct Random {
@@ -125,6 +125,11 @@ impl Random {
         (0..entries).map(|_| self.near(64)).collect()
     }
 
+    /// A mapping's entries, each a queue of a host with this many.
+    pub fn entries_below(&mut self, queues: u64) -> Vec<u64> {
+        (0..1u64 << self.below(8)).map(|_| self.below(queues)).collect()
+    }
+
     /// An ack, nearly always to a request of this type, with one octet changed, cut or lengthened half of the time.
     pub fn ack(&mut self, request_type: u32) -> Vec<u8> {
         let status = self.near(5);
@@ -141,6 +146,44 @@ impl Random {
             _ => {}
         }
         ack
+    }
+
+    /// How far a hostile end lets its counts be from the other's: mostly not too far, often just about so.
+    pub fn distance(&mut self) -> u32 {
+        let distance = match self.below(8) {
+            0 => self.between(1022, 1026),
+            1 => self.near(1025),
+            2 | 3 => self.below(1025),
+            _ => self.below(60),
+        };
+        distance as u32
+    }
+
+    /// A count that is about to run over.
+    pub fn high_count(&mut self) -> u32 {
+        0u32.wrapping_sub(self.below(2000) as u32)
+    }
+
+    /// Overwrites octets anywhere on a page, a few or all or none.
+    pub fn scribble(&mut self, page: &mut [u8]) {
+        let from = self.below(page.len() as u64) as usize;
+        let length = self.pick(&[0, 16, 1024, PAGE]).min(page.len() - from);
+        page[from..from + length].copy_from_slice(&self.octets(length as u64));
+    }
+
+    /// Overwrites two counts on a page.
+    pub fn spoil_counts(&mut self, page: &mut [u8], places: [usize; 2]) {
+        for at in places {
+            set_count(page, at, self.next() as u32);
+        }
+    }
+
+    /// A page that is too short or too long and else like this one.
+    pub fn page_of_other_length(&mut self, page: &[u8]) -> Vec<u8> {
+        let length = self.pick(&[0, 1, 15, 16, 2064, PAGE - 1, PAGE + 1, 2 * PAGE]);
+        let mut other = page.to_vec();
+        other.resize(length, 0);
+        other
     }
 
     /// A request to a host with this many queues, of one of the four types or another, good or wrong in one place.
@@ -181,8 +224,7 @@ impl Random {
 
     /// The payload of a mapping that the host takes.
     fn mapping(&mut self, queues: u64) -> Vec<u8> {
-        let entries = 1u64 << self.below(8);
-        (0..entries).flat_map(|_| self.below(queues).to_le_bytes()).collect()
+        self.entries_below(queues).into_iter().flat_map(u64::to_le_bytes).collect()
     }
 
     /// The payload of a mapping in which one entry, the first or the last or any, is no queue.

@@ -51,11 +51,44 @@ pub struct Interface {
     pub outgoing: Outgoing,
 }
 
-const SIZE: usize = 1272;
-/// Where no field stands.
-const PADDING: [(usize, usize); 3] = [(171, 176), (1220, 1224), (1268, SIZE)];
-const _: () = assert!(size_of::<Settings>() == 171 && size_of::<Interface>() == SIZE);
+#[repr(C)]
+#[derive(Clone, Copy)]
+pub struct Guest {
+    pub phase: u32,
+    pub request: [u8; 1032],
+    pub length: usize,
+    pub written: usize,
+    pub req_prod: u32,
+    pub header: [u8; 8],
+    pub payload: [u8; 16],
+    pub taken: u64,
+    pub rsp_cons: u32,
+}
+
+const INTERFACE: usize = 1272;
+const _: () = assert!(size_of::<Settings>() == 171 && size_of::<Interface>() == INTERFACE);
 const _: () = assert!(offset_of!(Interface, incoming) == 176 && offset_of!(Interface, outgoing) == 1224);
+
+const GUEST: usize = 1104;
+const _: () = assert!(offset_of!(Guest, phase) == 0 && offset_of!(Guest, request) == 4);
+const _: () = assert!(offset_of!(Guest, length) == 1040 && offset_of!(Guest, written) == 1048);
+const _: () = assert!(offset_of!(Guest, req_prod) == 1056 && offset_of!(Guest, header) == 1060);
+const _: () = assert!(offset_of!(Guest, payload) == 1068 && offset_of!(Guest, taken) == 1088);
+const _: () = assert!(offset_of!(Guest, rsp_cons) == 1096 && size_of::<Guest>() == GUEST);
+
+/// A struct that stands in the caller's memory between calls. Its fields are numbers, which have no invalid values.
+pub trait State: Copy {
+    /// Where no field stands.
+    const PADDING: [(usize, usize); 3];
+}
+
+impl State for Interface {
+    const PADDING: [(usize, usize); 3] = [(171, 176), (1220, 1224), (1268, INTERFACE)];
+}
+
+impl State for Guest {
+    const PADDING: [(usize, usize); 3] = [(1036, 1040), (1084, 1088), (1100, GUEST)];
+}
 
 extern "C" {
     fn zwerfen_set_up(interface: *mut Interface, queues: u32) -> u32;
@@ -93,6 +126,30 @@ extern "C" {
         status: *mut u32,
         flags: *mut u32,
     ) -> u32;
+    fn zwerfen_guest_set_up(guest: *mut Guest);
+    fn zwerfen_guest_start_get_flags(guest: *mut Guest, page: *mut u8, page_length: usize) -> u32;
+    fn zwerfen_guest_start_set_flags(guest: *mut Guest, page: *mut u8, page_length: usize, flags: u64) -> u32;
+    fn zwerfen_guest_start_set_key(
+        guest: *mut Guest,
+        page: *mut u8,
+        page_length: usize,
+        key: *const u8,
+        key_length: usize,
+    ) -> u32;
+    fn zwerfen_guest_start_set_mapping(
+        guest: *mut Guest,
+        page: *mut u8,
+        page_length: usize,
+        entries: *const u64,
+        entry_count: usize,
+    ) -> u32;
+    fn zwerfen_guest_event(
+        guest: *mut Guest,
+        page: *mut u8,
+        page_length: usize,
+        status: *mut u32,
+        flags: *mut u32,
+    ) -> u32;
 }
 
 /// A slice to read: none is a null pointer, an empty one a pointer that points at nothing.
@@ -116,15 +173,18 @@ fn parts_mut<T>(slice: SliceMut<T>) -> (*mut T, usize) {
     }
 }
 
-/// An interface's memory, seen by its fields and, its padding included, by its octets.
-pub union Room {
-    interface: Interface,
+/// The memory of a struct, seen by its fields and, its padding included, by its octets.
+pub union Room<T: State, const SIZE: usize> {
+    fields: T,
     octets: [u8; SIZE],
 }
 
-impl Room {
+pub type InterfaceRoom = Room<Interface, INTERFACE>;
+pub type GuestRoom = Room<Guest, GUEST>;
+
+impl<T: State, const SIZE: usize> Room<T, SIZE> {
     /// Memory as it happens to be before setup.
-    pub fn filled(octet: u8) -> Box<Room> {
+    pub fn filled(octet: u8) -> Box<Self> {
         Box::new(Room { octets: [octet; SIZE] })
     }
 
@@ -133,19 +193,19 @@ impl Room {
         unsafe { &self.octets }
     }
 
-    pub fn interface(&self) -> &Interface {
+    pub fn fields(&self) -> &T {
         // The fields are numbers and have no invalid values.
-        unsafe { &self.interface }
+        unsafe { &self.fields }
     }
 
-    pub fn interface_mut(&mut self) -> &mut Interface {
+    pub fn fields_mut(&mut self) -> &mut T {
         // As above.
-        unsafe { &mut self.interface }
+        unsafe { &mut self.fields }
     }
 
     /// What stands between the fields after setup is not settled. It gets a value, so that whole rooms can be compared.
     fn settle_padding(&mut self) {
-        for (start, end) in PADDING {
+        for (start, end) in T::PADDING {
             unsafe { self.octets[start..end].fill(0) }
         }
     }
@@ -154,22 +214,22 @@ impl Room {
 // In each call below the pointers are of live slices of the lengths given and of live places, or are null or dangling
 // with length 0, and what is written is borrowed for this call alone. Calls on a room are made only once it is set up.
 
-pub fn set_up(room: &mut Room, queues: u32) -> u32 {
-    let answer = unsafe { zwerfen_set_up(room.interface_mut(), queues) };
+pub fn set_up(room: &mut InterfaceRoom, queues: u32) -> u32 {
+    let answer = unsafe { zwerfen_set_up(room.fields_mut(), queues) };
     if answer == 0 {
         room.settle_padding();
     }
     answer
 }
 
-pub fn event(room: &mut Room, page: SliceMut<u8>) -> u32 {
+pub fn event(room: &mut InterfaceRoom, page: SliceMut<u8>) -> u32 {
     let (page, page_length) = parts_mut(page);
-    unsafe { zwerfen_event(room.interface_mut(), page, page_length) }
+    unsafe { zwerfen_event(room.fields_mut(), page, page_length) }
 }
 
-pub fn steer(room: &Room, packet: Slice<u8>, hash_type: &mut u32, hash: &mut u32, queue: &mut u32) -> u32 {
+pub fn steer(room: &InterfaceRoom, packet: Slice<u8>, hash_type: &mut u32, hash: &mut u32, queue: &mut u32) -> u32 {
     let (packet, packet_length) = parts(packet);
-    unsafe { zwerfen_steer(room.interface(), packet, packet_length, hash_type, hash, queue) }
+    unsafe { zwerfen_steer(room.fields(), packet, packet_length, hash_type, hash, queue) }
 }
 
 pub fn hash(key: Slice<u8>, input: Slice<u8>, hash: &mut u32) -> u32 {
@@ -205,4 +265,34 @@ pub fn write_set_mapping(buffer: SliceMut<u8>, entries: Slice<u64>, length: &mut
 pub fn read_ack(request_type: u32, message: Slice<u8>, status: &mut u32, flags: &mut u32) -> u32 {
     let (message, message_length) = parts(message);
     unsafe { zwerfen_read_ack(request_type, message, message_length, status, flags) }
+}
+
+pub fn guest_set_up(room: &mut GuestRoom) {
+    unsafe { zwerfen_guest_set_up(room.fields_mut()) }
+    room.settle_padding();
+}
+
+pub fn guest_start_get_flags(room: &mut GuestRoom, page: SliceMut<u8>) -> u32 {
+    let (page, page_length) = parts_mut(page);
+    unsafe { zwerfen_guest_start_get_flags(room.fields_mut(), page, page_length) }
+}
+
+pub fn guest_start_set_flags(room: &mut GuestRoom, page: SliceMut<u8>, flags: u64) -> u32 {
+    let (page, page_length) = parts_mut(page);
+    unsafe { zwerfen_guest_start_set_flags(room.fields_mut(), page, page_length, flags) }
+}
+
+pub fn guest_start_set_key(room: &mut GuestRoom, page: SliceMut<u8>, key: Slice<u8>) -> u32 {
+    let ((page, page_length), (key, key_length)) = (parts_mut(page), parts(key));
+    unsafe { zwerfen_guest_start_set_key(room.fields_mut(), page, page_length, key, key_length) }
+}
+
+pub fn guest_start_set_mapping(room: &mut GuestRoom, page: SliceMut<u8>, entries: Slice<u64>) -> u32 {
+    let ((page, page_length), (entries, entry_count)) = (parts_mut(page), parts(entries));
+    unsafe { zwerfen_guest_start_set_mapping(room.fields_mut(), page, page_length, entries, entry_count) }
+}
+
+pub fn guest_event(room: &mut GuestRoom, page: SliceMut<u8>, status: &mut u32, flags: &mut u32) -> u32 {
+    let (page, page_length) = parts_mut(page);
+    unsafe { zwerfen_guest_event(room.fields_mut(), page, page_length, status, flags) }
 }

@@ -1,6 +1,7 @@
 //! Compares every call of the library with rules that were written apart from it, on inputs from a seeded generator.
 
 mod compare;
+mod guests;
 mod inputs;
 mod library;
 mod rules;
@@ -64,7 +65,7 @@ fn print_counts(comparison: &Comparison) -> bool {
         let (name, answers) = call.described();
         let given = |answer| comparison.answers.get(&call).and_then(|given| given.get(&answer)).copied().unwrap_or(0);
         let counts: Vec<String> = answers.iter().map(|&a| format!("{a}: {}", with_commas(given(a)))).collect();
-        println!("{name:26} {:>9} inputs, answers {}", with_commas(comparison.inputs(call)), counts.join(", "));
+        println!("{name:31} {:>9} inputs, answers {}", with_commas(comparison.inputs(call)), counts.join(", "));
         complete &= answers.iter().all(|&answer| given(answer) > 0);
     }
     complete
@@ -96,7 +97,7 @@ fn check_the_comparison(wanted: &Wanted) -> bool {
         let found =
             trials::run(*call, &mut comparison, wanted.inputs).is_err_and(|difference| difference.call == *call);
         let verdict = if found { "found at input" } else { "NOT FOUND in inputs" };
-        println!("{:26} {words}: {verdict} {}", call.described().0, with_commas(comparison.inputs(*call)));
+        println!("{:31} {words}: {verdict} {}", call.described().0, with_commas(comparison.inputs(*call)));
         missed += u64::from(!found);
     }
     println!("{} wrong rules, {missed} of them not found", wrong_rules.len());

@@ -15,6 +15,15 @@ pub const HASH_TYPE: u32 = 9;
 pub const BUFFER_LENGTH: u32 = 10;
 pub const VALUE: u32 = 11;
 pub const NOT_AN_ACK: u32 = 12;
+pub const REQUEST_OUTSTANDING: u32 = 13;
+
+pub const REQUEST_PENDING: u32 = 0;
+pub const ACK_READ: u32 = 1;
+pub const REQUEST_OWED: u32 = 2;
+
+pub const IDLE: u32 = 0;
+pub const OUTSTANDING: u32 = 1;
+pub const FAILED: u32 = 2;
 
 pub const ACK: u64 = 1;
 pub const GET_FLAGS: u64 = 2;
@@ -34,6 +43,7 @@ pub const RESPONSES: usize = 1040;
 pub const HEADER: usize = 8;
 pub const KEY: usize = 40;
 pub const MAX_PAYLOAD: u64 = 1024;
+pub const MAX_REQUEST: usize = 1032;
 pub const MAX_ENTRIES: u64 = 128;
 pub const MAX_FLAGS: u64 = 15;
 
@@ -54,6 +64,32 @@ pub struct Interface {
     pub rsp_prod: u32,
 }
 
+/// The guest's end of a ring, as far as the rules settle it.
+#[derive(Clone, PartialEq)]
+pub struct Guest {
+    pub phase: u32,
+    /// The present request, or the last one.
+    pub request: Vec<u8>,
+    /// How many octets of it are on the page.
+    pub written: usize,
+    pub req_prod: u32,
+    /// The octets read of the present ack.
+    pub heard: Vec<u8>,
+    pub rsp_cons: u32,
+}
+
+/// A request that a guest is asked to start; none is a null pointer, which has no octets and no entries.
+#[derive(Clone, Copy)]
+pub enum Asked<'a> {
+    GetFlags,
+    SetFlags(u64),
+    SetKey(Option<&'a [u8]>),
+    SetMapping(Option<&'a [u64]>),
+}
+
+/// What an ack says: a status, and flags if it has any.
+pub type AckSays = (u64, Option<u64>);
+
 /// Type, hash and queue of a packet.
 pub struct Steered {
     pub hash_type: u32,
@@ -69,6 +105,17 @@ pub fn number(octets: &[u8]) -> u64 {
 /// A count on the page is four octets.
 pub fn count(page: &[u8], at: usize) -> u32 {
     number(&page[at..at + 4]) as u32
+}
+
+pub fn set_count(page: &mut [u8], at: usize, count: u32) {
+    page[at..at + 4].copy_from_slice(&count.to_le_bytes());
+}
+
+/// An octet with count c stands at c modulo 1,024 in its area; these begin with this count.
+pub fn put_octets(page: &mut [u8], area: usize, from: u32, octets: impl Iterator<Item = u8>) {
+    for (i, octet) in octets.enumerate() {
+        page[area + (from.wrapping_add(i as u32) % AREA) as usize] = octet;
+    }
 }
 
 /// A message is its type and the size of its payload in four octets each, and the payload.
@@ -201,8 +248,8 @@ pub trait Rules {
             self.read_request(interface, page);
         }
         let answer = if interface.owed.is_empty() { WAITING } else { self.write_ack(interface, page) };
-        page[0..4].copy_from_slice(&interface.req_cons.to_le_bytes());
-        page[12..16].copy_from_slice(&interface.rsp_prod.to_le_bytes());
+        set_count(page, 0, interface.req_cons);
+        set_count(page, 12, interface.rsp_prod);
         answer
     }
 
@@ -394,7 +441,7 @@ pub trait Rules {
     }
 
     /// An ack has type 1, its size, and a status; only a get flags that succeeds has flags, at most 15, behind it.
-    fn read_ack(&self, request_type: u32, message: &[u8]) -> Result<(u64, Option<u64>), u32> {
+    fn read_ack(&self, request_type: u32, message: &[u8]) -> Result<AckSays, u32> {
         let kind = u64::from(request_type);
         if message.len() < 16 || number(&message[0..4]) != ACK || number(&message[4..8]) + 8 != message.len() as u64 {
             return Err(NOT_AN_ACK);
@@ -408,6 +455,124 @@ pub trait Rules {
             return Err(NOT_AN_ACK);
         }
         Ok((status, has_flags.then(|| number(&message[16..24]))))
+    }
+
+    /// A guest begins with no request, nothing written and nothing read.
+    fn guest_set_up(&self) -> Guest {
+        Guest { phase: IDLE, request: vec![], written: 0, req_prod: 0, heard: vec![], rsp_cons: 0 }
+    }
+
+    /// A guest looks at the page's length, at the distances from its own counts, and whether an ack was refused before.
+    fn guest_refusal(&self, guest: &Guest, page: &[u8]) -> Option<u32> {
+        if page.len() != PAGE {
+            return Some(PAGE_LENGTH);
+        }
+        if guest.req_prod.wrapping_sub(count(page, 0)) > self.farthest() {
+            return Some(REQUEST_COUNT);
+        }
+        if count(page, 12).wrapping_sub(guest.rsp_cons) > self.farthest() {
+            return Some(RESPONSE_COUNT);
+        }
+        (guest.phase == FAILED).then_some(NOT_AN_ACK)
+    }
+
+    /// The message of a request is what the writer makes where it has room enough.
+    fn message_of(&self, asked: Asked) -> Result<Vec<u8>, u32> {
+        let mut buffer = [0; MAX_REQUEST];
+        let length = match asked {
+            Asked::GetFlags => self.write_get_flags(&mut buffer),
+            Asked::SetFlags(flags) => self.write_set_flags(&mut buffer, flags),
+            Asked::SetKey(key) => self.write_set_key(&mut buffer, key.unwrap_or_default()),
+            Asked::SetMapping(entries) => self.write_set_mapping(&mut buffer, entries.unwrap_or_default()),
+        };
+        Ok(buffer[..length?].to_vec())
+    }
+
+    /// A start is refused while a request is outstanding, and then as the writer refuses; else the request is begun.
+    fn guest_start(&self, guest: &mut Guest, page: &mut [u8], asked: Asked) -> u32 {
+        if let Some(refusal) = self.guest_refusal(guest, page) {
+            return refusal;
+        }
+        if guest.phase == OUTSTANDING {
+            return REQUEST_OUTSTANDING;
+        }
+        let message = match self.message_of(asked) {
+            Ok(message) => message,
+            Err(refusal) => return refusal,
+        };
+        (guest.phase, guest.request, guest.written) = (OUTSTANDING, message, 0);
+        let answer = self.guest_write(guest, page);
+        self.guest_counts(guest, page);
+        answer
+    }
+
+    /// An event writes what is owed of the request or else reads the ack; without a request it does neither. It gives
+    /// what the ack says, or the number of any other answer.
+    fn guest_event(&self, guest: &mut Guest, page: &mut [u8]) -> Result<AckSays, u32> {
+        if let Some(refusal) = self.guest_refusal(guest, page) {
+            return Err(refusal);
+        }
+        let answer = if guest.phase == IDLE {
+            Err(REQUEST_PENDING)
+        } else if guest.written < guest.request.len() {
+            Err(self.guest_write(guest, page))
+        } else {
+            self.guest_hear(guest, page)
+        };
+        if answer != Err(NOT_AN_ACK) {
+            self.guest_counts(guest, page);
+        }
+        answer
+    }
+
+    /// Octets of the request are written in order as long as the request area has a free place.
+    fn guest_write(&self, guest: &mut Guest, page: &mut [u8]) -> u32 {
+        while guest.written < guest.request.len() && guest.req_prod.wrapping_sub(count(page, 0)) < AREA {
+            page[REQUESTS + (guest.req_prod % AREA) as usize] = guest.request[guest.written];
+            guest.written += 1;
+            guest.req_prod = guest.req_prod.wrapping_add(1);
+        }
+        if guest.written < guest.request.len() {
+            REQUEST_OWED
+        } else {
+            REQUEST_PENDING
+        }
+    }
+
+    /// Octets of the ack are read until it is known to be good or wrong, or until none is left.
+    fn guest_hear(&self, guest: &mut Guest, page: &[u8]) -> Result<AckSays, u32> {
+        let (rsp_cons, rsp_prod) = (guest.rsp_cons, count(page, 12));
+        while guest.rsp_cons != rsp_prod {
+            guest.heard.push(page[RESPONSES + (guest.rsp_cons % AREA) as usize]);
+            guest.rsp_cons = guest.rsp_cons.wrapping_add(1);
+            let Some(answer) = self.judged(&guest.request, &guest.heard) else { continue };
+            guest.heard.clear();
+            guest.phase = IDLE;
+            if answer.is_err() {
+                (guest.phase, guest.rsp_cons) = (FAILED, rsp_cons);
+            }
+            return answer;
+        }
+        Err(REQUEST_PENDING)
+    }
+
+    /// An ack is wrong at its header if its size is neither 8 nor 16; else its reader judges it when it is whole.
+    fn judged(&self, request: &[u8], heard: &[u8]) -> Option<Result<AckSays, u32>> {
+        if heard.len() < HEADER {
+            return None;
+        }
+        let size = number(&heard[4..8]);
+        if size != 8 && size != 16 {
+            return Some(Err(NOT_AN_ACK));
+        }
+        let is_whole = heard.len() as u64 == HEADER as u64 + size;
+        is_whole.then(|| self.read_ack(number(&request[0..4]) as u32, heard))
+    }
+
+    /// The guest's own counts go back to the page.
+    fn guest_counts(&self, guest: &Guest, page: &mut [u8]) {
+        set_count(page, 4, guest.req_prod);
+        set_count(page, 8, guest.rsp_cons);
     }
 }
 

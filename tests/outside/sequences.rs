@@ -4,7 +4,9 @@ use std::collections::VecDeque;
 
 use crate::compare::{Both, Call, Comparison, Difference, DONE};
 use crate::library::{Slice, SliceMut};
-use crate::rules::{message, number, AREA, GET_FLAGS, HEADER, PAGE, REQUESTS, RESPONSES, SET_FLAGS, WAITING};
+use crate::rules::{
+    message, number, put_octets, set_count, AREA, GET_FLAGS, HEADER, PAGE, REQUESTS, RESPONSES, SET_FLAGS, WAITING,
+};
 
 /// One interface and the page that it shares with its guest.
 struct Sequence<'a, 'b> {
@@ -19,35 +21,26 @@ impl<'a, 'b> Sequence<'a, 'b> {
         let queues = comparison.random.pick(&[1, 2, 3, 4, 7, 8, 16, 33, 63, 64]);
         let mut both = comparison.set_up(queues)?.expect("1 to 64 queues are not refused");
         if comparison.random.one_in(3) {
-            let [req_cons, rsp_prod] = [(); 2].map(|()| 0u32.wrapping_sub(comparison.random.below(2000) as u32));
+            let [req_cons, rsp_prod] = [(); 2].map(|()| comparison.random.high_count());
             both.start_at(req_cons, rsp_prod);
         }
         let page = comparison.random.octets(PAGE as u64);
         Ok(Sequence { comparison, both, page })
     }
 
-    fn set_count(&mut self, at: usize, count: u32) {
-        self.page[at..at + 4].copy_from_slice(&count.to_le_bytes());
-    }
-
     fn set_guest_counts(&mut self, req_prod: u32, rsp_cons: u32) {
-        self.set_count(4, req_prod);
-        self.set_count(8, rsp_cons);
+        set_count(&mut self.page, 4, req_prod);
+        set_count(&mut self.page, 8, rsp_cons);
     }
 
     /// Puts octets into the request area, the first at this count.
     fn put_requests(&mut self, from: u32, octets: impl Iterator<Item = u8>) {
-        for (i, octet) in octets.enumerate() {
-            self.page[REQUESTS + (from.wrapping_add(i as u32) % AREA) as usize] = octet;
-        }
+        put_octets(&mut self.page, REQUESTS, from, octets);
     }
 
     /// Overwrites what the page says of the host's own counts, which the host must never read.
     fn spoil_own_counts(&mut self) {
-        for at in [0, 12] {
-            let junk = self.comparison.random.next() as u32;
-            self.set_count(at, junk);
-        }
+        self.comparison.random.spoil_counts(&mut self.page, [0, 12]);
     }
 
     fn event(&mut self) -> Result<u32, Difference> {
@@ -159,29 +152,13 @@ pub fn honest(comparison: &mut Comparison, events: u64) -> Result<(), Difference
     Ok(())
 }
 
-/// How far a hostile guest lets its counts be from the host's: mostly not too far, often just about so.
-fn distance(comparison: &mut Comparison) -> u32 {
-    let random = &mut comparison.random;
-    let distance = match random.below(8) {
-        0 => random.between(1022, 1026),
-        1 => random.near(1025),
-        2 | 3 => random.below(1025),
-        _ => random.below(60),
-    };
-    distance as u32
-}
-
 /// A page with any octets, counts and length, in whose request area a request often goes on where the host reads.
 pub fn hostile(comparison: &mut Comparison, events: u64) -> Result<(), Difference> {
     let mut sequence = Sequence::begin(comparison)?;
     let mut request = vec![];
     for _ in 0..events {
         let (req_cons, rsp_prod) = (sequence.both.model.req_cons, sequence.both.model.rsp_prod);
-        let random = &mut sequence.comparison.random;
-        let from = random.below(PAGE as u64) as usize;
-        let length = random.pick(&[0, 16, 1024, PAGE]).min(PAGE - from);
-        let scribble = random.octets(length as u64);
-        sequence.page[from..from + length].copy_from_slice(&scribble);
+        sequence.comparison.random.scribble(&mut sequence.page);
         sequence.spoil_own_counts();
 
         if sequence.both.model.taken == 0 {
@@ -192,7 +169,7 @@ pub fn hostile(comparison: &mut Comparison, events: u64) -> Result<(), Differenc
         if !sequence.comparison.random.one_in(if is_header { 200 } else { 8 }) {
             sequence.put_requests(req_cons, request.iter().copied().take(AREA as usize));
         }
-        let [ahead, behind] = [(); 2].map(|()| distance(sequence.comparison));
+        let [ahead, behind] = [(); 2].map(|()| sequence.comparison.random.distance());
         sequence.set_guest_counts(req_cons.wrapping_add(ahead), rsp_prod.wrapping_sub(behind));
 
         if sequence.comparison.random.one_in(16) {
@@ -208,9 +185,7 @@ pub fn hostile(comparison: &mut Comparison, events: u64) -> Result<(), Differenc
 
 /// An event on a page that is too short or too long.
 fn other_length(sequence: &mut Sequence) -> Result<(), Difference> {
-    let length = sequence.comparison.random.pick(&[0, 1, 15, 16, 2064, PAGE - 1, PAGE + 1, 2 * PAGE]);
-    let mut page = sequence.page.clone();
-    page.resize(length, 0);
+    let mut page = sequence.comparison.random.page_of_other_length(&sequence.page);
     sequence.comparison.event(&mut sequence.both, Some(&mut page)).map(|_| ())
 }
 

@@ -2,7 +2,7 @@
 
 use crate::compare::{Call, Comparison, Difference};
 use crate::rules::message;
-use crate::{sequences, worked};
+use crate::{guests, sequences, worked};
 
 /// Compares a call on at least this many inputs.
 pub fn run(call: Call, comparison: &mut Comparison, inputs: u64) -> Result<(), Difference> {
@@ -43,12 +43,18 @@ fn no_octets(call: Call, comparison: &mut Comparison) -> Result<(), Difference> 
                 comparison.write_set_mapping(no_buffer, no_entries)?;
             }
             Call::ReadAck => comparison.read_ack(2, nothing).map(|_| ())?,
+            Call::GuestSetUp => {}
+            Call::GuestStartGetFlags
+            | Call::GuestStartSetFlags
+            | Call::GuestStartSetKey
+            | Call::GuestStartSetMapping
+            | Call::GuestEvent => guests::no_octets(comparison, call, no_page, nothing, no_entries)?,
         }
     }
     Ok(())
 }
 
-/// Known answers, all small numbers, and every damage of every ack.
+/// Known answers, all small numbers, every damage of every ack, and every combination of refusals.
 fn settled_inputs(call: Call, comparison: &mut Comparison) -> Result<(), Difference> {
     match call {
         Call::SetUp => (0..=70).try_for_each(|queues| comparison.set_up(queues).map(|_| ())),
@@ -62,6 +68,14 @@ fn settled_inputs(call: Call, comparison: &mut Comparison) -> Result<(), Differe
             comparison.write_set_mapping(Some(8 + 8 * entries.len()), Some(&entries))
         }),
         Call::ReadAck => damaged_acks(comparison),
+        Call::GuestStartGetFlags | Call::GuestStartSetFlags | Call::GuestStartSetKey | Call::GuestStartSetMapping => {
+            guests::rooms(comparison, call)?;
+            guests::refusals(comparison, call)
+        }
+        Call::GuestEvent => {
+            guests::acks(comparison)?;
+            guests::refusals(comparison, call)
+        }
         _ => Ok(()),
     }
 }
@@ -135,6 +149,15 @@ fn generated_input(call: Call, comparison: &mut Comparison) -> Result<(), Differ
             let request_type = random.near(8) as u32;
             let ack = random.ack(request_type);
             comparison.read_ack(request_type, Some(&ack)).map(|_| ())
+        }
+        Call::GuestSetUp => comparison.guest_set_up().map(|_| ()),
+        Call::GuestStartGetFlags
+        | Call::GuestStartSetFlags
+        | Call::GuestStartSetKey
+        | Call::GuestStartSetMapping
+        | Call::GuestEvent => {
+            let host = random.pick(&[guests::both_ends, guests::hostile]);
+            host(comparison, call, 200)
         }
     }
 }

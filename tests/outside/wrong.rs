@@ -59,7 +59,7 @@ wrong_rules! {
         fn event(&self, interface: &mut Interface, page: &mut [u8]) -> u32 {
             let answer = Written.event(interface, page);
             if page.len() == PAGE {
-                page[0..4].copy_from_slice(&interface.req_cons.to_le_bytes());
+                set_count(page, 0, interface.req_cons);
             }
             answer
         }
@@ -129,9 +129,9 @@ wrong_rules! {
     Event, "an ack runs over octets that the guest has not read": {
         fn write_ack(&self, interface: &mut Interface, page: &mut [u8]) -> u32 {
             let rsp_cons = count(page, 8);
-            page[8..12].copy_from_slice(&interface.rsp_prod.to_le_bytes());
+            set_count(page, 8, interface.rsp_prod);
             let answer = Written.write_ack(interface, page);
-            page[8..12].copy_from_slice(&rsp_cons.to_le_bytes());
+            set_count(page, 8, rsp_cons);
             answer
         }
     }
@@ -255,9 +255,205 @@ wrong_rules! {
         }
     }
     ReadAck, "octets behind the ack are let through": {
-        fn read_ack(&self, request_type: u32, message: &[u8]) -> Result<(u64, Option<u64>), u32> {
+        fn read_ack(&self, request_type: u32, message: &[u8]) -> Result<AckSays, u32> {
             let cut = &message[..message.len().min(16)];
             Written.read_ack(request_type, message).or_else(|_| Written.read_ack(request_type, cut))
+        }
+    }
+    GuestSetUp, "the own req_prod begins at 1": {
+        fn guest_set_up(&self) -> Guest {
+            Guest { req_prod: 1, ..Written.guest_set_up() }
+        }
+    }
+    GuestStartGetFlags, "a start is taken while a request is outstanding": {
+        fn guest_start(&self, guest: &mut Guest, page: &mut [u8], asked: Asked) -> u32 {
+            match Written.guest_start(guest, page, asked) {
+                REQUEST_OUTSTANDING => {
+                    guest.phase = IDLE;
+                    Written.guest_start(guest, page, asked)
+                }
+                answer => answer,
+            }
+        }
+    }
+    GuestStartGetFlags, "a refused ack is forgotten at the next start": {
+        fn guest_start(&self, guest: &mut Guest, page: &mut [u8], asked: Asked) -> u32 {
+            if guest.phase == FAILED {
+                guest.phase = IDLE;
+            }
+            Written.guest_start(guest, page, asked)
+        }
+    }
+    GuestStartSetFlags, "a start reads octets of the ack too": {
+        fn guest_start(&self, guest: &mut Guest, page: &mut [u8], asked: Asked) -> u32 {
+            let answer = Written.guest_start(guest, page, asked);
+            if answer == REQUEST_PENDING && matches!(asked, Asked::SetFlags(_)) {
+                let _ = Written.guest_event(guest, page);
+            }
+            answer
+        }
+    }
+    GuestStartSetFlags, "the flags are looked at before the page": {
+        fn guest_start(&self, guest: &mut Guest, page: &mut [u8], asked: Asked) -> u32 {
+            self.message_of(asked).map_or_else(|refusal| refusal, |_| Written.guest_start(guest, page, asked))
+        }
+    }
+    GuestStartSetKey, "the key is looked at before the outstanding request": {
+        fn guest_start(&self, guest: &mut Guest, page: &mut [u8], asked: Asked) -> u32 {
+            match (Written.guest_start(guest, page, asked), self.message_of(asked)) {
+                (REQUEST_OUTSTANDING, Err(refusal)) => refusal,
+                (answer, _) => answer,
+            }
+        }
+    }
+    GuestStartSetKey, "the outstanding request is looked at before the counts": {
+        fn guest_start(&self, guest: &mut Guest, page: &mut [u8], asked: Asked) -> u32 {
+            match Written.guest_start(guest, page, asked) {
+                REQUEST_COUNT | RESPONSE_COUNT if guest.phase == OUTSTANDING => REQUEST_OUTSTANDING,
+                answer => answer,
+            }
+        }
+    }
+    GuestStartSetKey, "the own counts are not written to the page": {
+        fn guest_counts(&self, _guest: &Guest, _page: &mut [u8]) {}
+    }
+    GuestStartSetMapping, "a request runs over octets that the host has not read": {
+        fn guest_write(&self, guest: &mut Guest, page: &mut [u8]) -> u32 {
+            let req_cons = count(page, 0);
+            set_count(page, 0, guest.req_prod);
+            let answer = Written.guest_write(guest, page);
+            set_count(page, 0, req_cons);
+            answer
+        }
+    }
+    GuestStartSetMapping, "a request is written from the start of the request area": {
+        fn guest_write(&self, guest: &mut Guest, page: &mut [u8]) -> u32 {
+            let length = guest.request.len().min(AREA as usize);
+            page[REQUESTS..REQUESTS + length].copy_from_slice(&guest.request[..length]);
+            Written.guest_write(guest, page)
+        }
+    }
+    GuestStartSetMapping, "a request that does not fit is refused": {
+        fn guest_start(&self, guest: &mut Guest, page: &mut [u8], asked: Asked) -> u32 {
+            let before = guest.clone();
+            match Written.guest_start(guest, page, asked) {
+                REQUEST_OWED => {
+                    *guest = before;
+                    BUFFER_LENGTH
+                }
+                answer => answer,
+            }
+        }
+    }
+    GuestEvent, "the page's own req_prod is read": {
+        fn guest_event(&self, guest: &mut Guest, page: &mut [u8]) -> Result<AckSays, u32> {
+            if page.len() == PAGE {
+                guest.req_prod = count(page, 4);
+            }
+            Written.guest_event(guest, page)
+        }
+    }
+    GuestEvent, "the page's own rsp_cons is read": {
+        fn guest_event(&self, guest: &mut Guest, page: &mut [u8]) -> Result<AckSays, u32> {
+            if page.len() == PAGE {
+                guest.rsp_cons = count(page, 8);
+            }
+            Written.guest_event(guest, page)
+        }
+    }
+    GuestEvent, "counts 1,025 apart are good": {
+        fn farthest(&self) -> u32 {
+            AREA + 1
+        }
+    }
+    GuestEvent, "counts 1,024 apart are refused": {
+        fn farthest(&self) -> u32 {
+            AREA - 1
+        }
+    }
+    GuestEvent, "an ack is its first 16 octets, whatever its size says": {
+        fn judged(&self, _request: &[u8], heard: &[u8]) -> Option<Result<AckSays, u32>> {
+            (heard.len() == 16).then(|| Ok((number(&heard[8..16]), None)))
+        }
+    }
+    GuestEvent, "an ack is waited for, whatever its size says": {
+        fn judged(&self, request: &[u8], heard: &[u8]) -> Option<Result<AckSays, u32>> {
+            let is_whole = heard.len() >= HEADER && heard.len() as u64 == HEADER as u64 + number(&heard[4..8]);
+            is_whole.then(|| self.read_ack(number(&request[0..4]) as u32, heard))
+        }
+    }
+    GuestEvent, "an ack is read as one to a get flags": {
+        fn judged(&self, _request: &[u8], heard: &[u8]) -> Option<Result<AckSays, u32>> {
+            Written.judged(&message(GET_FLAGS, &[]), heard)
+        }
+    }
+    GuestEvent, "the status handed back is always 0": {
+        fn guest_event(&self, guest: &mut Guest, page: &mut [u8]) -> Result<AckSays, u32> {
+            Written.guest_event(guest, page).map(|(_, flags)| (SUCCESS, flags))
+        }
+    }
+    GuestEvent, "the flags handed back are 0 where the ack has none": {
+        fn guest_event(&self, guest: &mut Guest, page: &mut [u8]) -> Result<AckSays, u32> {
+            Written.guest_event(guest, page).map(|(status, flags)| (status, flags.or(Some(0))))
+        }
+    }
+    GuestEvent, "a refused ack is forgotten at the next event": {
+        fn guest_event(&self, guest: &mut Guest, page: &mut [u8]) -> Result<AckSays, u32> {
+            if guest.phase == FAILED {
+                guest.phase = OUTSTANDING;
+            }
+            Written.guest_event(guest, page)
+        }
+    }
+    GuestEvent, "a refused ack ends its request": {
+        fn guest_hear(&self, guest: &mut Guest, page: &[u8]) -> Result<AckSays, u32> {
+            let answer = Written.guest_hear(guest, page);
+            if guest.phase == FAILED {
+                guest.phase = IDLE;
+            }
+            answer
+        }
+    }
+    GuestEvent, "the octets of a refused ack are counted as read": {
+        fn guest_hear(&self, guest: &mut Guest, page: &[u8]) -> Result<AckSays, u32> {
+            let answer = Written.guest_hear(guest, page);
+            if guest.phase == FAILED {
+                guest.rsp_cons = count(page, 12);
+            }
+            answer
+        }
+    }
+    GuestEvent, "the page gets the own counts where an ack is refused": {
+        fn guest_event(&self, guest: &mut Guest, page: &mut [u8]) -> Result<AckSays, u32> {
+            let answer = Written.guest_event(guest, page);
+            if answer == Err(NOT_AN_ACK) {
+                self.guest_counts(guest, page);
+            }
+            answer
+        }
+    }
+    GuestEvent, "octets behind the ack are read with it": {
+        fn guest_hear(&self, guest: &mut Guest, page: &[u8]) -> Result<AckSays, u32> {
+            let says = Written.guest_hear(guest, page)?;
+            guest.rsp_cons = count(page, 12);
+            Ok(says)
+        }
+    }
+    GuestEvent, "octets of the ack are read behind those of the request that are owed": {
+        fn guest_event(&self, guest: &mut Guest, page: &mut [u8]) -> Result<AckSays, u32> {
+            let owed = guest.written < guest.request.len();
+            match Written.guest_event(guest, page) {
+                Err(REQUEST_PENDING) if owed => Written.guest_event(guest, page),
+                answer => answer,
+            }
+        }
+    }
+    GuestEvent, "octets are read without a request": {
+        fn guest_event(&self, guest: &mut Guest, page: &mut [u8]) -> Result<AckSays, u32> {
+            if guest.phase == IDLE && self.guest_refusal(guest, page).is_none() {
+                guest.rsp_cons = count(page, 12);
+            }
+            Written.guest_event(guest, page)
         }
     }
 }

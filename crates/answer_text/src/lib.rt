@@ -1,8 +1,14 @@
-// The parts of a line that more than one test program prints.
+// What more than one test program prints: parts of lines, and the lines of the host's interface with the cases that
+// they are printed for.
+mod host;
+
 use cases::print_digest;
 use cases::print_hex;
 use cases::print_number;
 use cases::print_word;
+pub use host::host_event;
+pub use host::recounted;
+pub use host::set_up_host;
 use messages::Settings;
 use steering::Steered;
 

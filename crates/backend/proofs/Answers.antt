@@ -13,10 +13,11 @@ use Rattle.octets.specs.Outcome.{value, refused}
 use Rattle.octets.proofs.Truth.{both-true}
 use Rattle.octets.proofs.Outcomes.{value-not-refused, test-value}
 use Rattle.messages.specs.Settings.{maxQueues}
+use Rattle.ring.specs.Refusals.{pageWrong, requestsWrong, responsesWrong}
 use Rattle.ring.specs.Page.{pageSize, areaSize}
 use Rattle.ring.specs.Reading.{whole}
 use Rattle.backend.specs.States.{queuesWrong, interfaceAtSetup, setUpOutcome}
-use Rattle.backend.specs.Events.{After, waiting, ackWritten, ackOwed, pageWrong, requestsWrong, responsesWrong, unread, unreadAcks}
+use Rattle.backend.specs.Events.{After, waiting, ackWritten, ackOwed, unread, unreadAcks}
 use Rattle.backend.specs.Events.{refusedWith, owes, responded, readIn, carriedOver, proceeded, eventOf, answerNumber}
 use Rattle.backend.specs.Rules.{Accepted, room, afterReading}
 use Rattle.backend.specs.declared.Interface.{Interface}

@@ -18,13 +18,13 @@ use Rattle.backend.specs.declared.Interface.{Interface}
 
 -- the octets read on the way from s to t
 abbrev pub readTo : Interface → List ℕ → Interface → List ℕ
-readTo s page t = octetsIn requestsAt page (s .incoming .«req_cons») (less (t .incoming .«req_cons») (s .incoming .«req_cons»))
+readTo s page t = octetsIn requestsAt page (s .incoming .cons) (less (t .incoming .cons) (s .incoming .cons))
 
 -- of n octets in the area, where `present` is held of the message so far
 module _ (s : Interface) (page : List ℕ) (n : ℕ) (present : List ℕ) (good : Good s) where
   module _ (held : Holding (s .incoming .message) present) (part : beginsWhole present ≡ false) (most : n ≤ areaSize) where
     abbrev fresh : List ℕ
-    fresh = octetsIn requestsAt page (s .incoming .«req_cons») n
+    fresh = octetsIn requestsAt page (s .incoming .cons) n
 
     pub read-held : Holding (readIn s page n .incoming .message) (presentPart (present ++ fresh))
     unfolding readIn receivedFrom
@@ -36,13 +36,13 @@ module _ (s : Interface) (page : List ℕ) (n : ℕ) (present : List ℕ) (good 
 
     more-most : more ≤ n
     more-most =
-        let size : length fresh ≡ n = octets-length requestsAt page (s .incoming .«req_cons») n in
+        let size : length fresh ≡ n = octets-length requestsAt page (s .incoming .cons) n in
         omega (arith, present-most (present ++ fresh), length-append present fresh)
 
-    read-count : less (readIn s page n .incoming .«req_cons») (s .incoming .«req_cons») ≡ more
+    read-count : less (readIn s page n .incoming .cons) (s .incoming .cons) ≡ more
     unfolding readIn receivedFrom
     read-count =
-        let c = s .incoming .«req_cons» in
+        let c = s .incoming .cons in
         let count : received fresh (s .incoming .message) .taken - s .incoming .message .taken ≡ more =
         ap₂ (λ (a b : ℕ). a - b) (read-held .count) (held .count) in
         ap (λ (k : ℕ). less (advanced c k) c) count ∙ less-advanced c more (good .incoming .count) (omega (arith, more-most))
@@ -50,7 +50,7 @@ module _ (s : Interface) (page : List ℕ) (n : ℕ) (present : List ℕ) (good 
     -- and with them the message is what the stream has of it
     pub read-octets : present ++ readTo s page (readIn s page n) ≡ presentPart (present ++ fresh)
     read-octets =
-        let c = s .incoming .«req_cons» in
+        let c = s .incoming .cons in
         ap (λ (k : ℕ). present ++ octetsIn requestsAt page c k) read-count
         ∙ ap (λ (l : List ℕ). present ++ l) (sym (octets-take requestsAt page c more n more-most))
         ∙ sym (present-prefix present fresh part)

@@ -6,13 +6,14 @@ use mathlib.Core.Bool.{true, false}
 use Prim.Native.Nat.{ℕ, _^_, _≤_, _<_}
 use native.Mathlib.Omega.{arith}
 use Rattle.messages.specs.Settings.{maxQueues, settingsAtSetup}
+use Rattle.ring.specs.Refusals.{pageWrong, requestsWrong, responsesWrong}
 use Rattle.ring.specs.Page.{requestsAt, responsesAt, less, octetsIn}
 use Rattle.ring.specs.Reading.{whole}
 use Rattle.ring.specs.Streams.{beginsWhole, presentPart}
 use Rattle.ring.proofs.Places.{octets-none}
 use Rattle.ring.proofs.Holdings.{holding-none, holding-whole}
 use Rattle.backend.specs.States.{Good, interfaceAtSetup}
-use Rattle.backend.specs.Events.{After, waiting, pageWrong, requestsWrong, responsesWrong, unread, refusedWith, answeredWith}
+use Rattle.backend.specs.Events.{After, waiting, unread, refusedWith, answeredWith}
 use Rattle.backend.specs.Events.{owes, responded, readIn, carriedOver, eventOf}
 use Rattle.backend.specs.Streams.{messagesWithin, restWithin, messagesIn, restOf, settingsAfter, acksTo, owedOctets}
 use Rattle.backend.specs.Streams.{readBy, writtenBy, stateAfter, octetsRead, octetsWritten, Served}
@@ -75,12 +76,12 @@ module _ (q : ℕ) (s : Interface) (page read written : List ℕ) (good : Good s
   stands = served-stands q s read written served
 
   -- where a count stays, nothing is read or written
-  none-read : octetsIn requestsAt page (s .incoming .«req_cons») (less (s .incoming .«req_cons») (s .incoming .«req_cons»)) ≡ []
-  none-read = none-in requestsAt page (s .incoming .«req_cons») (good .incoming .count)
+  none-read : octetsIn requestsAt page (s .incoming .cons) (less (s .incoming .cons) (s .incoming .cons)) ≡ []
+  none-read = none-in requestsAt page (s .incoming .cons) (good .incoming .count)
 
   none-written : (other : List ℕ)
-      → octetsIn responsesAt other (s .outgoing .«rsp_prod») (less (s .outgoing .«rsp_prod») (s .outgoing .«rsp_prod»)) ≡ []
-  none-written other = none-in responsesAt other (s .outgoing .«rsp_prod») (good .outgoing .count)
+      → octetsIn responsesAt other (s .outgoing .prod) (less (s .outgoing .prod) (s .outgoing .prod)) ≡ []
+  none-written other = none-in responsesAt other (s .outgoing .prod) (good .outgoing .count)
 
   -- refused
   serves-refused : (k : ℕ) → Serves (refusedWith k s page)
@@ -103,7 +104,7 @@ module _ (q : ℕ) (s : Interface) (page read written : List ℕ) (good : Good s
     stream = read ++ readTo s page after
 
     abbrev behind : List ℕ
-    behind = rest ++ octetsIn requestsAt page (s .incoming .«req_cons») (unread s page)
+    behind = rest ++ octetsIn requestsAt page (s .incoming .cons) (unread s page)
 
     stands-after : Stands q after stream written ms (presentPart behind)
     stands-after = stands-read q s read written ms rest page (unread s page) good stands (rest-part read) (ok .requests)

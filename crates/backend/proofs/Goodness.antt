@@ -8,6 +8,7 @@ use native.Mathlib.Omega.{arith}
 use lib.ListN.{length}
 use borrow.Author.Tests.{ltb-false}
 use Rattle.messages.specs.Wire.{headerSize, maxPayload, typeIn, sizeIn}
+use Rattle.messages.specs.Requests.{maxAck}
 use Rattle.messages.specs.Settings.{maxQueues, Good as GoodSettings}
 use Rattle.messages.proofs.Theorems.{ack-fits, good-at-setup, good-stays-good}
 use Rattle.ring.specs.Page.{requestsAt, octetsIn}
@@ -37,7 +38,7 @@ good-responded s page room good =
     record {
       settings = good .settings;
       incoming = good .incoming;
-      outgoing = good-sent (s .outgoing) room (good .outgoing);
+      outgoing = good-sent (s .outgoing) room maxAck (good .outgoing);
       in-turn = λ h. good .in-turn (omega arith);
     }
 
@@ -54,7 +55,7 @@ module _ (s : Interface) (page : List ℕ) (n : ℕ) (good : Good s) where
       let nothing-owed : 0 < owed (s .outgoing) → ⊥ = λ h. omega arith in
       record {
         settings = good .settings;
-        incoming = good-received page (s .incoming) n (good .incoming) waits;
+        incoming = good-received requestsAt page (s .incoming) n maxPayload (good .incoming) waits;
         outgoing = good .outgoing;
         in-turn = λ h. absurd (nothing-owed h);
       }
@@ -63,12 +64,12 @@ module _ (s : Interface) (page : List ℕ) (n : ℕ) (good : Good s) where
   pub read-sizes : (length (readIn s page n .incoming .message .header) ≡ length (s .incoming .message .header))
       × (length (readIn s page n .incoming .message .payload) ≡ length (s .incoming .message .payload))
   unfolding readIn receivedFrom
-  read-sizes = let g = grown (octetsIn requestsAt page (s .incoming .«req_cons») n) (s .incoming .message) in (g .header, g .payload)
+  read-sizes = let g = grown (octetsIn requestsAt page (s .incoming .cons) n) (s .incoming .message) in (g .header, g .payload)
 
 -- after carrying out: the settings are good, the next message begins, and the ack has its place
-module _ (s : Interface) (settings : GoodSettings (s .settings)) (outgoing : GoodOutgoing (s .outgoing)) where
+module _ (s : Interface) (settings : GoodSettings (s .settings)) (outgoing : GoodOutgoing maxAck (s .outgoing)) where
   good-over : length (s .incoming .message .header) ≡ headerSize → length (s .incoming .message .payload) ≡ maxPayload
-      → s .incoming .«req_cons» < 2 ^ 32 → Good (carriedOver s)
+      → s .incoming .cons < 2 ^ 32 → Good (carriedOver s)
   unfolding carriedOver
   good-over header payload count =
       let m = s .incoming .message in

@@ -8,6 +8,7 @@ use Prim.Native.Nat.{ℕ, _+_, _-_, _%_, _^_, _≤_, _<_}
 use native.Mathlib.Omega.{arith}
 use lib.ListN.{length, getD, drop, length-take}
 use lib.Dec.{eqb, leb}
+use Rattle.ring.specs.Refusals.{pageWrong, requestsWrong, responsesWrong}
 use Rattle.ring.specs.Page.{pageSize, areaSize, reqConsAt, reqProdAt, rspConsAt, rspProdAt, requestsAt, responsesAt}
 use Rattle.ring.specs.Page.{countIn, less, counted, octetsIn, put}
 use Rattle.ring.specs.Reading.{whole, receivedFrom}
@@ -16,7 +17,7 @@ use Rattle.ring.proofs.Places.{octets-length, put-length}
 use Rattle.ring.proofs.Untouched.{counted-between, counted-behind, counted-length, counted-cons, counted-prod}
 use Rattle.ring.proofs.Untouched.{counted-others, put-other, octets-agree}
 use Rattle.backend.specs.States.{Good}
-use Rattle.backend.specs.Events.{After, pageWrong, requestsWrong, responsesWrong, unread, unreadAcks, refusedWith, answeredWith}
+use Rattle.backend.specs.Events.{After, unread, unreadAcks, refusedWith, answeredWith}
 use Rattle.backend.specs.Events.{withOutgoing, owes, responded, readIn, carriedOver, afterRead, proceeded, eventOf}
 use Rattle.backend.specs.Streams.{writtenBy}
 use Rattle.backend.specs.Rules.{Accepted, room, afterReading, NoOwnCount, AckPlace, Alike}
@@ -33,28 +34,28 @@ counted-other page c p i (inr high) = counted-behind page c p i high
 -- what is left of an octet, for a state and its page after the writing
 abbrev Kept : Interface → List ℕ → ℕ → After → Type 0
 Kept s page i a =
-    ((j : ℕ) → j < less (a .state .outgoing .«rsp_prod») (s .outgoing .«rsp_prod»)
-    → i ≡ responsesAt + (s .outgoing .«rsp_prod» + j) % areaSize → ⊥)
+    ((j : ℕ) → j < less (a .state .outgoing .prod) (s .outgoing .prod)
+    → i ≡ responsesAt + (s .outgoing .prod + j) % areaSize → ⊥)
     → getD (a .page) i 0 ≡ getD page i 0
 
-kept-responded : (s t : Interface) (page : List ℕ) (n i : ℕ) → t .outgoing .«rsp_prod» ≡ s .outgoing .«rsp_prod» → Good t → NoOwnCount i
+kept-responded : (s t : Interface) (page : List ℕ) (n i : ℕ) → t .outgoing .prod ≡ s .outgoing .prod → Good t → NoOwnCount i
     → Kept s page i (responded t page n)
 unfolding responded
 kept-responded s t page n i same good own free =
     let o = t .outgoing in
     let k = fitting o n in
-    let count : less ((o .«rsp_prod» + k) % 2 ^ 32) (s .outgoing .«rsp_prod») ≡ k =
+    let count : less ((o .prod + k) % 2 ^ 32) (s .outgoing .prod) ≡ k =
     omega (arith, same, good .outgoing .count, good .outgoing .short) in
-    let long = length-take k (drop (o .written) (o .ack)) in
-    counted-other (put responsesAt page (o .«rsp_prod») (sentOctets o k)) _ _ i own
-    ∙ put-other responsesAt (sentOctets o k) page (o .«rsp_prod») i
+    let long = length-take k (drop (o .written) (o .octets)) in
+    counted-other (put responsesAt page (o .prod) (sentOctets o k)) _ _ i own
+    ∙ put-other responsesAt (sentOctets o k) page (o .prod) i
     (λ j l e. free j (omega arith) (e ∙ ap (λ (c : ℕ). responsesAt + (c + j) % areaSize) same))
 
 written-length : (s : Interface) (page : List ℕ)
-    → length (writtenBy s page) ≡ less (eventOf s page .state .outgoing .«rsp_prod») (s .outgoing .«rsp_prod»)
-written-length s page = octets-length responsesAt (eventOf s page .page) (s .outgoing .«rsp_prod») _
+    → length (writtenBy s page) ≡ less (eventOf s page .state .outgoing .prod) (s .outgoing .prod)
+written-length s page = octets-length responsesAt (eventOf s page .page) (s .outgoing .prod) _
 
-over-prod : (s : Interface) (page : List ℕ) → carriedOver (afterReading s page) .outgoing .«rsp_prod» ≡ s .outgoing .«rsp_prod»
+over-prod : (s : Interface) (page : List ℕ) → carriedOver (afterReading s page) .outgoing .prod ≡ s .outgoing .prod
 unfolding carriedOver readIn
 over-prod s page = refl
 
@@ -76,7 +77,7 @@ unfolding responded
 responded-length s page n =
     let o = s .outgoing in
     let xs = sentOctets o (fitting o n) in
-    counted-length (put responsesAt page (o .«rsp_prod») xs) _ _ ∙ put-length responsesAt xs page (o .«rsp_prod»)
+    counted-length (put responsesAt page (o .prod) xs) _ _ ∙ put-length responsesAt xs page (o .prod)
 
 pub length-same : (s : Interface) (page : List ℕ) → length (eventOf s page .page) ≡ length page
 length-same s page =
@@ -88,12 +89,12 @@ length-same s page =
 -- the page has both own counts of the state
 abbrev Back : After → Type 0
 Back a =
-    (countIn (a .page) reqConsAt ≡ a .state .incoming .«req_cons») × (countIn (a .page) rspProdAt ≡ a .state .outgoing .«rsp_prod»)
+    (countIn (a .page) reqConsAt ≡ a .state .incoming .cons) × (countIn (a .page) rspProdAt ≡ a .state .outgoing .prod)
 
 back : (s : Interface) (page : List ℕ) → Good s → length page ≡ pageSize → Back (answeredWith 0 s page)
 back s page good size =
-    let c = s .incoming .«req_cons» in
-    let p = s .outgoing .«rsp_prod» in
+    let c = s .incoming .cons in
+    let p = s .outgoing .prod in
     (counted-cons page c p (omega arith) (good .incoming .count), counted-prod page c p (omega arith) (good .outgoing .count))
 
 back-responded : (s : Interface) (page : List ℕ) (n : ℕ) → Good s → length page ≡ pageSize → Back (responded s page n)
@@ -101,26 +102,26 @@ unfolding responded
 back-responded s page n good size =
     let o = s .outgoing in
     let xs = sentOctets o (fitting o n) in
-    back (withOutgoing s (sent o (fitting o n))) (put responsesAt page (o .«rsp_prod») xs) (good-responded s page n good)
-    (put-length responsesAt xs page (o .«rsp_prod») ∙ size)
+    back (withOutgoing s (sent o (fitting o n))) (put responsesAt page (o .prod) xs) (good-responded s page n good)
+    (put-length responsesAt xs page (o .prod) ∙ size)
 
 -- every event answered 0, 1 or 2 writes both own counts back
 pub counts-written : (s : Interface) (page : List ℕ) → Good s → Accepted s page
-    → (countIn (eventOf s page .page) reqConsAt ≡ eventOf s page .state .incoming .«req_cons»)
-    × (countIn (eventOf s page .page) rspProdAt ≡ eventOf s page .state .outgoing .«rsp_prod»)
+    → (countIn (eventOf s page .page) reqConsAt ≡ eventOf s page .state .incoming .cons)
+    × (countIn (eventOf s page .page) rspProdAt ≡ eventOf s page .state .outgoing .prod)
 counts-written s page good ok =
     event-cases s page Back (λ wrong. absurd (wrong (ok .size))) (λ e high. absurd (omega arith)) (λ e r high. absurd (omega arith))
     (λ _ owing. back-responded s page (room s page) good (ok .size))
     (λ _ idle part. back (readIn s page (unread s page)) page (good-read s page (unread s page) good idle part) (ok .size))
     (λ _ idle all. back-responded (carriedOver (afterReading s page)) page (room s page) (good-carried s page (unread s page) good) (ok .size))
 
-responded-moves : (s t : Interface) (page : List ℕ) (n : ℕ) → t .outgoing .«rsp_prod» ≡ s .outgoing .«rsp_prod» → Good t
-    → less (responded t page n .state .outgoing .«rsp_prod») (s .outgoing .«rsp_prod») ≤ n
+responded-moves : (s t : Interface) (page : List ℕ) (n : ℕ) → t .outgoing .prod ≡ s .outgoing .prod → Good t
+    → less (responded t page n .state .outgoing .prod) (s .outgoing .prod) ≤ n
 unfolding responded
 responded-moves s t page n same good = omega (arith, same, good .outgoing .count, good .outgoing .short)
 
 none-moves : (s : Interface) (page : List ℕ) → Good s
-    → less (afterReading s page .outgoing .«rsp_prod») (s .outgoing .«rsp_prod») ≤ room s page
+    → less (afterReading s page .outgoing .prod) (s .outgoing .prod) ≤ room s page
 unfolding readIn
 none-moves s page good = omega (arith, good .outgoing .count)
 
@@ -128,7 +129,7 @@ none-moves s page good = omega (arith, good .outgoing .count)
 pub writes-into-room : (s : Interface) (page : List ℕ) → Good s → Accepted s page → length (writtenBy s page) + unreadAcks s page ≤ areaSize
 writes-into-room s page good ok =
     let moved =
-    event-cases s page (λ (a : After). less (a .state .outgoing .«rsp_prod») (s .outgoing .«rsp_prod») ≤ room s page)
+    event-cases s page (λ (a : After). less (a .state .outgoing .prod) (s .outgoing .prod) ≤ room s page)
     (λ wrong. absurd (wrong (ok .size)))
     (λ e high. absurd (omega arith))
     (λ e r high. absurd (omega arith))
@@ -148,7 +149,7 @@ module _ (s : Interface) (p q : List ℕ) (octets : (n c : ℕ) → octetsIn req
 
   read-alike : (n : ℕ) → readIn s p n ≡ readIn s q n
   unfolding readIn receivedFrom
-  read-alike n = rw (octets n (s .incoming .«req_cons»)) refl
+  read-alike n = rw (octets n (s .incoming .cons)) refl
 
   responded-alike : (t : Interface) (n : ℕ) → Alike (responded t p n) (responded t q n)
   unfolding responded

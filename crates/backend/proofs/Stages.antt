@@ -12,7 +12,7 @@ use borrow.Author.Tests.{leb-true, leb-false, ltb-false}
 use Rattle.octets.proofs.Numbers.{number-same}
 use Rattle.messages.specs.Wire.{headerSize, maxPayload, typeIn, sizeIn, payloadIn}
 use Rattle.messages.specs.Settings.{settingsAtSetup}
-use Rattle.messages.specs.Requests.{ackIn, carriedOut, carriedMessage}
+use Rattle.messages.specs.Requests.{maxAck, ackIn, carriedOut, carriedMessage}
 use Rattle.messages.specs.declared.Settings.{Settings}
 use Rattle.messages.specs.declared.Carried.{Carried}
 use Rattle.messages.proofs.Theorems.{header-bounds-payload, header-alone}
@@ -35,7 +35,7 @@ use Rattle.backend.proofs.Falls.{first-long, joined-snoc, messages-snoc
 -- the octets written on the way from s to what an event leaves
 abbrev pub writtenTo : Interface → After → List ℕ
 writtenTo s a =
-    octetsIn responsesAt (a .page) (s .outgoing .«rsp_prod») (less (a .state .outgoing .«rsp_prod») (s .outgoing .«rsp_prod»))
+    octetsIn responsesAt (a .page) (s .outgoing .prod) (less (a .state .outgoing .prod) (s .outgoing .prod))
 
 -- the stream `read` is the messages ms, all carried out, and the present message so far
 pub record Stands (q : ℕ) (s : Interface) (read written : List ℕ) (ms : List (List ℕ)) (present : List ℕ) : Type 0 where
@@ -74,7 +74,7 @@ module _ (st : Settings) (m : Message) (xs : List ℕ) (held : Holding m xs) (lo
       ∙ take-all maxPayload (payloadIn xs) (omega arith)
       ∙ sym (take-all (sizeIn xs) (payloadIn xs) (omega arith))
 
-  carried-held : carriedOut st (typeIn (m .header)) (sizeIn (m .header)) (m .payload) ≡ carriedMessage st xs []
+  pub carried-held : carriedOut st (typeIn (m .header)) (sizeIn (m .header)) (m .payload) ≡ carriedMessage st xs []
   carried-held =
       ap₂ (λ (t n : ℕ). carriedOut st t n (m .payload)) type-held size-held
       ∙ by (leb (sizeIn xs) maxPayload) refl
@@ -86,32 +86,32 @@ module _ (st : Settings) (m : Message) (xs : List ℕ) (held : Holding m xs) (lo
       by false e = header-alone st (typeIn xs) (sizeIn xs) (m .payload) (payloadIn xs) (leb-false _ _ e)
 
 -- octets of an ack sent, and those that are still owed, are those that were
-sent-rest : (o : Outgoing) (n : ℕ) → GoodOutgoing o → n ≤ owed o
-    → sentOctets o n ++ drop (o .written + n) (take (o .length) (o .ack)) ≡ drop (o .written) (take (o .length) (o .ack))
+sent-rest : (o : Outgoing) (n : ℕ) → GoodOutgoing maxAck o → n ≤ owed o
+    → sentOctets o n ++ drop (o .written + n) (take (o .length) (o .octets)) ≡ drop (o .written) (take (o .length) (o .octets))
 sent-rest o n good h =
-    let front = take (o .length) (o .ack) in
-    let back = drop (o .length) (o .ack) in
-    let size : length front ≡ o .length = length-take-le (o .length) (o .ack) (omega arith) in
+    let front = take (o .length) (o .octets) in
+    let back = drop (o .length) (o .octets) in
+    let size : length front ≡ o .length = length-take-le (o .length) (o .octets) (omega arith) in
     let left : length (drop (o .written) front) ≡ length front - o .written = length-drop (o .written) front in
     let sent : sentOctets o n ≡ take n (drop (o .written) front) =
-    ap (λ (l : List ℕ). take n (drop (o .written) l)) (sym (take-append-drop (o .length) (o .ack)))
+    ap (λ (l : List ℕ). take n (drop (o .written) l)) (sym (take-append-drop (o .length) (o .octets)))
     ∙ ap (take n) (drop-append-le (o .written) front back (omega arith))
     ∙ take-append-le n (drop (o .written) front) back (omega arith) in
     ap₂ (λ (xs ys : List ℕ). xs ++ ys) sent (sym (drop-drop n (o .written) front)) ∙ take-append-drop n (drop (o .written) front)
 
 -- they then stand in the response area
-written-sent : (s : Interface) (page : List ℕ) (room : ℕ) → GoodOutgoing (s .outgoing) → length page ≡ pageSize
+written-sent : (s : Interface) (page : List ℕ) (room : ℕ) → GoodOutgoing maxAck (s .outgoing) → length page ≡ pageSize
     → writtenTo s (responded s page room) ≡ sentOctets (s .outgoing) (fitting (s .outgoing) room)
 unfolding responded
 written-sent s page room good size =
     let o = s .outgoing in
-    let p = o .«rsp_prod» in
+    let p = o .prod in
     let n = fitting o room in
     let xs = sentOctets o n in
     let into = put responsesAt page p xs in
-    let left : length (drop (o .written) (o .ack)) ≡ length (o .ack) - o .written = length-drop (o .written) (o .ack) in
-    let long : length xs ≡ n = length-take-le n (drop (o .written) (o .ack)) (omega arith) in
-    counted-octets responsesAt into (s .incoming .«req_cons») (advanced p n) (less (advanced p n) p) p (omega arith)
+    let left : length (drop (o .written) (o .octets)) ≡ length (o .octets) - o .written = length-drop (o .written) (o .octets) in
+    let long : length xs ≡ n = length-take-le n (drop (o .written) (o .octets)) (omega arith) in
+    counted-octets responsesAt into (s .incoming .cons) (advanced p n) (less (advanced p n) p) p (omega arith)
     ∙ ap (octetsIn responsesAt into p) (less-advanced p n (good .count) (omega arith) ∙ sym long)
     ∙ put-stands responsesAt xs page p (omega arith) (omega arith)
 
@@ -119,7 +119,7 @@ module _ (q : ℕ) (s : Interface) (read written : List ℕ) (ms : List (List �
   -- octets of the present message read
   pub stands-read : (page : List ℕ) (n : ℕ) → Good s → Stands q s read written ms present → beginsWhole present ≡ false → n ≤ areaSize
       → Stands q (readIn s page n) (read ++ readTo s page (readIn s page n)) written ms
-      (presentPart (present ++ octetsIn requestsAt page (s .incoming .«req_cons») n))
+      (presentPart (present ++ octetsIn requestsAt page (s .incoming .cons) n))
   unfolding readIn
   stands-read page n good stands part most =
       let octets = readTo s page (readIn s page n) in
@@ -147,7 +147,7 @@ module _ (q : ℕ) (s : Interface) (read written : List ℕ) (ms : List (List �
       carried-held (s .settings) m present (stands .held) long ∙ ap (λ (t : Settings). carriedMessage t present []) (stands .settings) in
       let over : o .length ≤ o .written = ltb-false _ _ idle in
       let none : owedOctets s ≡ [] =
-      drop-of-length-le (take (o .length) (o .ack)) {i = o .written} (omega (arith, length-take (o .length) (o .ack))) in
+      drop-of-length-le (take (o .length) (o .octets)) {i = o .written} (omega (arith, length-take (o .length) (o .octets))) in
       record {
         splits = stands .splits ∙ sym (append-nil (joined (ms ++ (present ∷ []))) ∙ joined-snoc ms present);
         messages = messages-snoc ms present (stands .messages) long;
@@ -161,13 +161,13 @@ module _ (q : ℕ) (s : Interface) (read written : List ℕ) (ms : List (List �
       }
 
   -- octets of the ack written
-  pub stands-responded : (page : List ℕ) (room : ℕ) → Stands q s read written ms present → GoodOutgoing (s .outgoing) → length page ≡ pageSize
+  pub stands-responded : (page : List ℕ) (room : ℕ) → Stands q s read written ms present → GoodOutgoing maxAck (s .outgoing) → length page ≡ pageSize
       → Stands q (responded s page room .state) read (written ++ writtenTo s (responded s page room)) ms present
   unfolding responded
   stands-responded page room stands good size =
       let o = s .outgoing in
       let n = fitting o room in
-      let rest = drop (o .written + n) (take (o .length) (o .ack)) in
+      let rest = drop (o .written + n) (take (o .length) (o .octets)) in
       record {
         splits = stands .splits;
         messages = stands .messages;

@@ -7,12 +7,13 @@ use Prim.Native.Nat.{ℕ, _-_, _≤_, _<_}
 use lib.ListN.{length}
 use borrow.Author.Tests.{eq-eqb, ne-eqb, le-leb, lt-leb}
 use Rattle.messages.specs.declared.Carried.{Carried}
-use Rattle.ring.specs.Page.{pageSize, areaSize, counted}
+use Rattle.ring.specs.Refusals.{pageWrong, requestsWrong, responsesWrong}
+use Rattle.ring.specs.Page.{pageSize, areaSize, requestsAt, counted}
 use Rattle.ring.specs.Reading.{whole, receivedFrom}
 use Rattle.ring.specs.declared.Incoming.{Incoming}
 use Rattle.ring.specs.declared.Outgoing.{Outgoing}
 use Rattle.backend.specs.States.{Good}
-use Rattle.backend.specs.Events.{After, pageWrong, requestsWrong, responsesWrong, unread, unreadAcks, refusedWith, withIncoming, withOutgoing, owes}
+use Rattle.backend.specs.Events.{After, unread, unreadAcks, refusedWith, withIncoming, withOutgoing, owes}
 use Rattle.backend.specs.Events.{responded, readIn, carriedIn, carriedOver, afterRead, proceeded, eventOf, left}
 use Rattle.backend.specs.Inner.{Responds}
 use Rattle.backend.specs.declared.Interface.{Interface}
@@ -26,8 +27,8 @@ over s c =
     let m = s .incoming .message in
     record {
       settings = c .settings;
-      incoming = record { message = record { header = m .header; payload = m .payload; taken = 0 }; «req_cons» = s .incoming .«req_cons» };
-      outgoing = record { ack = c .ack .octets; length = c .ack .length; written = 0; «rsp_prod» = s .outgoing .«rsp_prod» };
+      incoming = record { message = record { header = m .header; payload = m .payload; taken = 0 }; cons = s .incoming .cons };
+      outgoing = record { octets = c .ack .octets; length = c .ack .length; written = 0; prod = s .outgoing .prod };
     }
 
 -- the message carried out
@@ -36,13 +37,13 @@ unfolding carriedOver
 carries s c e = ap (over s) e
 
 -- the message read
-pub reads : (s : Interface) (page : List ℕ) (n : ℕ) (i : Incoming) → i ≡ receivedFrom page (s .incoming) n → withIncoming s i ≡ readIn s page n
+pub reads : (s : Interface) (page : List ℕ) (n : ℕ) (i : Incoming) → i ≡ receivedFrom requestsAt page (s .incoming) n → withIncoming s i ≡ readIn s page n
 unfolding readIn
 reads s page n i e = ap (withIncoming s) e
 
 -- ack octets sent, and the counts written
 pub responds : (s : Interface) (page : List ℕ) (room : ℕ) (r : EventAnswer) (o : Outgoing) (octets : List ℕ)
-    → Responds (s .outgoing) page (s .incoming .«req_cons») room r o octets → left r (withOutgoing s o) octets ≡ responded s page room
+    → Responds (s .outgoing) page (s .incoming .cons) room r o octets → left r (withOutgoing s o) octets ≡ responded s page room
 unfolding responded
 responds s page room r o octets e = rw (e .answer, e .octets, e .side) refl
 
@@ -59,7 +60,7 @@ module _ (s t : Interface) (page : List ℕ) (n room : ℕ) (good : Good s) (idl
   proceeds-whole u w carried = rw (idle, ← read, w, carried) refl
 
   pub proceeds-part : (octets : List ℕ) → whole (t .incoming .message) ≡ false
-      → octets ≡ counted page (t .incoming .«req_cons») (s .outgoing .«rsp_prod») → left Waiting t octets ≡ proceeded s page n room
+      → octets ≡ counted page (t .incoming .cons) (s .outgoing .prod) → left Waiting t octets ≡ proceeded s page n room
   unfolding proceeded afterRead
   proceeds-part octets w q =
       let same : t .outgoing ≡ s .outgoing = ap (λ (i : Interface). i .outgoing) read ∙ read-idle s page n good in

@@ -51,7 +51,7 @@ read-settings : (s : Interface) (page : List ℕ) (n : ℕ) → readIn s page n 
 unfolding readIn
 read-settings s page n = refl
 
-carried-count : (s : Interface) → carriedOver s .incoming .«req_cons» ≡ s .incoming .«req_cons»
+carried-count : (s : Interface) → carriedOver s .incoming .cons ≡ s .incoming .cons
 unfolding carriedOver
 carried-count s = refl
 
@@ -60,21 +60,21 @@ unfolding carriedOver
 carried-settings s = refl
 
 read-whole : (s : Interface) (page : List ℕ) → whole (afterReading s page .incoming .message)
-    ≡ whole (received (octetsIn requestsAt page (s .incoming .«req_cons») (unread s page)) (s .incoming .message))
+    ≡ whole (received (octetsIn requestsAt page (s .incoming .cons) (unread s page)) (s .incoming .message))
 unfolding readIn receivedFrom
 read-whole s page = refl
 
 -- the octets are read by reading alone
 read-all : (s : Interface) (page : List ℕ) → Accepted s page → owes s ≡ false
-    → eventOf s page .state .incoming .«req_cons» ≡ afterReading s page .incoming .«req_cons»
+    → eventOf s page .state .incoming .cons ≡ afterReading s page .incoming .cons
 read-all s page ok idle =
-    event-cases s page (λ (a : After). a .state .incoming .«req_cons» ≡ t .incoming .«req_cons»)
+    event-cases s page (λ (a : After). a .state .incoming .cons ≡ t .incoming .cons)
     (λ wrong. absurd (wrong (ok .size)))
     (λ e high. absurd (omega arith))
     (λ e r high. absurd (omega arith))
     (λ _ owing. absurd (false≢true (sym idle ∙ owing)))
     (λ _ i part. refl)
-    (λ _ i all. ap (λ (i : Incoming). i .«req_cons») (responded-incoming (carriedOver t) page (room s page)) ∙ carried-count t)
+    (λ _ i all. ap (λ (i : Incoming). i .cons) (responded-incoming (carriedOver t) page (room s page)) ∙ carried-count t)
   where
     t : Interface
     t = afterReading s page
@@ -143,29 +143,29 @@ module _ (s : Interface) (page : List ℕ) where
       queues x = x .queues
 
   -- the own counts: req_cons moves by exactly the octets read, and rsp_prod by the octets written
-  pub req-cons-moves : Good s → eventOf s page .state .incoming .«req_cons» ≡ advanced (s .incoming .«req_cons») (length (readBy s page))
+  pub req-cons-moves : Good s → eventOf s page .state .incoming .cons ≡ advanced (s .incoming .cons) (length (readBy s page))
   req-cons-moves good =
       let new = good-event s page good .incoming .count in
-      let moved = octets-length requestsAt page (s .incoming .«req_cons»)
-      (less (eventOf s page .state .incoming .«req_cons») (s .incoming .«req_cons»)) in
+      let moved = octets-length requestsAt page (s .incoming .cons)
+      (less (eventOf s page .state .incoming .cons) (s .incoming .cons)) in
       omega (arith, good .incoming .count)
 
-  pub rsp-prod-moves : Good s → eventOf s page .state .outgoing .«rsp_prod» ≡ advanced (s .outgoing .«rsp_prod») (length (writtenBy s page))
+  pub rsp-prod-moves : Good s → eventOf s page .state .outgoing .prod ≡ advanced (s .outgoing .prod) (length (writtenBy s page))
   rsp-prod-moves good =
       let new = good-event s page good .outgoing .count in
-      let moved = octets-length responsesAt (eventOf s page .page) (s .outgoing .«rsp_prod»)
-      (less (eventOf s page .state .outgoing .«rsp_prod») (s .outgoing .«rsp_prod»)) in
+      let moved = octets-length responsesAt (eventOf s page .page) (s .outgoing .prod)
+      (less (eventOf s page .state .outgoing .prod) (s .outgoing .prod)) in
       omega (arith, good .outgoing .count)
 
   -- what is read of the present message, of which xs were held: with the octets in the area they make up the stream
   module _ (xs : List ℕ) (held : Holding (s .incoming .message) xs) (good : Good s) (ok : Accepted s page) (idle : owes s ≡ false) where
     abbrev stream : List ℕ
-    stream = xs ++ octetsIn requestsAt page (s .incoming .«req_cons») (unread s page)
+    stream = xs ++ octetsIn requestsAt page (s .incoming .cons) (unread s page)
 
     -- a request whose missing octets all lie in the area is carried out at that event
     pub carried-out-when-there : beginsWhole stream ≡ true → BecomesWhole s page
     carried-out-when-there there =
-        let ys = octetsIn requestsAt page (s .incoming .«req_cons») (unread s page) in
+        let ys = octetsIn requestsAt page (s .incoming .cons) (unread s page) in
         let part : beginsWhole xs ≡ false = sym (holding-whole (s .incoming .message) xs held) ∙ good .incoming .waiting in
         let after = holding-received ys (s .incoming .message) xs held part in
         let same = holding-whole (received ys (s .incoming .message)) (presentPart stream) after in
@@ -175,5 +175,5 @@ module _ (s : Interface) (page : List ℕ) where
     pub following-stays : xs ++ readBy s page ≡ presentPart stream
     following-stays =
         let part : beginsWhole xs ≡ false = sym (holding-whole (s .incoming .message) xs held) ∙ good .incoming .waiting in
-        ap (λ (c : ℕ). xs ++ octetsIn requestsAt page (s .incoming .«req_cons») (less c (s .incoming .«req_cons»))) (read-all s page ok idle)
+        ap (λ (c : ℕ). xs ++ octetsIn requestsAt page (s .incoming .cons) (less c (s .incoming .cons))) (read-all s page ok idle)
         ∙ read-octets s page (unread s page) xs good held part (ok .requests)

@@ -8,7 +8,8 @@ use lib.Dec.{eqb, leb, ltb}
 use Rattle.messages.specs.Wire.{typeIn, sizeIn}
 use Rattle.messages.specs.Requests.{carriedOut}
 use Rattle.messages.specs.declared.Carried.{Carried}
-use Rattle.ring.specs.Page.{pageSize, areaSize, reqProdAt, rspConsAt, responsesAt, countIn, less, counted, put}
+use Rattle.ring.specs.Refusals.{pageWrong, requestsWrong, responsesWrong}
+use Rattle.ring.specs.Page.{pageSize, areaSize, reqProdAt, rspConsAt, requestsAt, responsesAt, countIn, less, counted, put}
 use Rattle.ring.specs.Reading.{whole, receivedFrom}
 use Rattle.ring.specs.Writing.{fitting, sentOctets, sent}
 use Rattle.ring.specs.declared.Incoming.{Incoming}
@@ -28,16 +29,6 @@ ackWritten = 1
 abbrev pub ackOwed : ℕ
 ackOwed = 2
 
--- and its refusals: the page not 4,096 octets, req_prod less own req_cons above 1,024, own rsp_prod less rsp_cons above it
-abbrev pub pageWrong : ℕ
-pageWrong = 3
-
-abbrev pub requestsWrong : ℕ
-requestsWrong = 4
-
-abbrev pub responsesWrong : ℕ
-responsesWrong = 5
-
 -- what an event answers, and leaves
 pub record After : Type 0 where
   pub answer : ℕ
@@ -47,10 +38,10 @@ pub record After : Type 0 where
 -- the octets unread in the request area, and in the response area. Of the page only req_prod and rsp_cons are read: the
 -- other two counts are the host's own
 abbrev pub unread : Interface → List ℕ → ℕ
-unread s page = less (countIn page reqProdAt) (s .incoming .«req_cons»)
+unread s page = less (countIn page reqProdAt) (s .incoming .cons)
 
 abbrev pub unreadAcks : Interface → List ℕ → ℕ
-unreadAcks s page = less (s .outgoing .«rsp_prod») (countIn page rspConsAt)
+unreadAcks s page = less (s .outgoing .prod) (countIn page rspConsAt)
 
 -- a refusal: state and page as before
 abbrev pub refusedWith : ℕ → Interface → List ℕ → After
@@ -59,7 +50,7 @@ refusedWith k s page = record { answer = k; state = s; page = page }
 -- an event answered 0, 1 or 2 writes both own counts back
 abbrev pub answeredWith : ℕ → Interface → List ℕ → After
 answeredWith k s page =
-    record { answer = k; state = s; page = counted page (s .incoming .«req_cons») (s .outgoing .«rsp_prod») }
+    record { answer = k; state = s; page = counted page (s .incoming .cons) (s .outgoing .prod) }
 
 -- the state with other parts
 abbrev pub withIncoming : Interface → Incoming → Interface
@@ -78,11 +69,11 @@ responded s page room =
     let o = s .outgoing in
     let n = fitting o room in
     let next = withOutgoing s (sent o n) in
-    answeredWith (cond (owes next) ackOwed ackWritten) next (put responsesAt page (o .«rsp_prod») (sentOctets o n))
+    answeredWith (cond (owes next) ackOwed ackWritten) next (put responsesAt page (o .prod) (sentOctets o n))
 
 -- octets of the present message read, until it is whole or none of the n is left
 unfoldable pub readIn : Interface → List ℕ → ℕ → Interface
-readIn s page n = withIncoming s (receivedFrom page (s .incoming) n)
+readIn s page n = withIncoming s (receivedFrom requestsAt page (s .incoming) n)
 
 -- the present message carried out
 abbrev pub carriedIn : Interface → Carried
@@ -97,8 +88,8 @@ carriedOver s =
     let c = carriedIn s in
     record {
       settings = c .settings;
-      incoming = record { message = record { header = m .header; payload = m .payload; taken = 0 }; «req_cons» = s .incoming .«req_cons» };
-      outgoing = record { ack = c .ack .octets; length = c .ack .length; written = 0; «rsp_prod» = s .outgoing .«rsp_prod» };
+      incoming = record { message = record { header = m .header; payload = m .payload; taken = 0 }; cons = s .incoming .cons };
+      outgoing = record { octets = c .ack .octets; length = c .ack .length; written = 0; prod = s .outgoing .prod };
     }
 
 -- once the octets there are have been read: not whole, answer 0; whole, carried out, and as much of its ack written as fits

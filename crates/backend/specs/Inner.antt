@@ -14,5 +14,5 @@ use Rattle.backend.specs.declared.EventAnswer.{EventAnswer}
 -- as many octets of the ack written as fit into `room` octets, and both counts behind them
 pub record Responds (o : Outgoing) (page : List ℕ) (reqCons room : ℕ) (r : EventAnswer) (next : Outgoing) (left : List ℕ) : Type 0 where
   pub side : next ≡ sent o (fitting o room)
-  pub octets : left ≡ counted (put responsesAt page (o .«rsp_prod») (sentOctets o (fitting o room))) reqCons (next .«rsp_prod»)
+  pub octets : left ≡ counted (put responsesAt page (o .prod) (sentOctets o (fitting o room))) reqCons (next .prod)
   pub answer : answerNumber r ≡ cond (ltb (next .written) (next .length)) ackOwed ackWritten

@@ -38,7 +38,7 @@ NoOwnCount i = ((reqProdAt ≤ i) × (i < rspProdAt)) ⊎ (requestsAt ≤ i)
 
 -- the place of an ack octet that the event writes
 abbrev pub AckPlace : Interface → List ℕ → ℕ → Type 0
-AckPlace s page i = (j : ℕ) × (j < length (writtenBy s page)) × (i ≡ responsesAt + (s .outgoing .«rsp_prod» + j) % areaSize)
+AckPlace s page i = (j : ℕ) × (j < length (writtenBy s page)) × (i ≡ responsesAt + (s .outgoing .prod + j) % areaSize)
 
 -- two events with the same answer and the same state left
 pub record Alike (a b : After) : Type 0 where

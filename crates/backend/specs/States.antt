@@ -6,6 +6,8 @@ use mathlib.Core.Bool.{cond, _&&_}
 use Prim.Native.Nat.{ℕ, _<_}
 use lib.Dec.{leb}
 use Rattle.octets.specs.Outcome.{Outcome, value, refused}
+use Rattle.messages.specs.Wire.{maxPayload}
+use Rattle.messages.specs.Requests.{maxAck}
 use Rattle.messages.specs.Settings.{maxQueues, tableOf, settingsOf, settingsAtSetup, Good as GoodSettings}
 use Rattle.messages.specs.declared.Settings.{Settings}
 use Rattle.steering.specs.Steering.{Choice, steered}
@@ -43,8 +45,8 @@ setUpOutcomeOf r = cond (r .made) (value (r .interface)) (refused queuesWrong)
 -- a good state: what holds of the state of an interface from setup on
 pub record Good (s : Interface) : Type 0 where
   pub settings : GoodSettings (s .settings)
-  pub incoming : GoodIncoming (s .incoming)
-  pub outgoing : GoodOutgoing (s .outgoing)
+  pub incoming : GoodIncoming maxPayload (s .incoming)
+  pub outgoing : GoodOutgoing maxAck (s .outgoing)
   -- while ack octets are owed, nothing of a following request has been read
   pub in-turn : 0 < owed (s .outgoing) → s .incoming .message .taken ≡ 0
 

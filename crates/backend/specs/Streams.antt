@@ -52,14 +52,14 @@ acksTo s (m ∷ ms) = ackIn (carriedMessage s m []) ++ acksTo (carriedMessage s 
 -- the octets that an event reads: those of the request area from the own req_cons before it to that after it
 abbrev pub readBy : Interface → List ℕ → List ℕ
 readBy s page =
-    octetsIn requestsAt page (s .incoming .«req_cons»)
-    (less (eventOf s page .state .incoming .«req_cons») (s .incoming .«req_cons»))
+    octetsIn requestsAt page (s .incoming .cons)
+    (less (eventOf s page .state .incoming .cons) (s .incoming .cons))
 
 -- and the octets that it writes: those that then stand in the response area, from the own rsp_prod before it to that after it
 abbrev pub writtenBy : Interface → List ℕ → List ℕ
 writtenBy s page =
-    octetsIn responsesAt (eventOf s page .page) (s .outgoing .«rsp_prod»)
-    (less (eventOf s page .state .outgoing .«rsp_prod») (s .outgoing .«rsp_prod»))
+    octetsIn responsesAt (eventOf s page .page) (s .outgoing .prod)
+    (less (eventOf s page .state .outgoing .prod) (s .outgoing .prod))
 
 -- events one after the other, each on the page that it is given: the state left, and all octets read and written
 unfoldable pub stateAfter : Interface → List (List ℕ) → Interface
@@ -76,7 +76,7 @@ octetsWritten s (page ∷ pages) = writtenBy s page ++ octetsWritten (eventOf s 
 
 -- the octets of the ack that are still owed
 abbrev pub owedOctets : Interface → List ℕ
-owedOctets s = drop (s .outgoing .written) (take (s .outgoing .length) (s .outgoing .ack))
+owedOctets s = drop (s .outgoing .written) (take (s .outgoing .length) (s .outgoing .octets))
 
 -- an interface with q queues that has served the stream `read`: its settings are what the messages of the stream leave,
 -- carried out in order, each once; the octets written are their acks in order, up to what is still owed; and of the

@@ -2,11 +2,14 @@
 // anything is read, and a request is carried out once it is whole. The work is done in place, on the parts of an
 // interface as they are lent, so that an event copies only what it moves.
 ghost use mathlib.Core.Path.{_≡_};
+ghost use mathlib.Core.Bool.{false};
+ghost use Prim.Native.Nat.{_^_, _≤_, _<_};
 ghost use lib.ListN.{length};
 ghost use Rattle.messages.specs.Wire.{typeIn, sizeIn};
 ghost use Rattle.messages.specs.Settings.{settingsOf};
-ghost use Rattle.messages.specs.Requests.{carriedAs, carriedOut};
-ghost use Rattle.ring.specs.Page.{pageSize, reqProdAt, rspConsAt, countIn, less, counted};
+ghost use Rattle.messages.specs.Requests.{maxAck, carriedAs, carriedOut};
+ghost use Rattle.ring.specs.Page.{pageSize, areaSize, reqProdAt, rspConsAt, requestsAt, countIn, less};
+ghost use Rattle.ring.specs.Reading.{isWhole, incomingOf, receivedFrom};
 ghost use Rattle.ring.specs.Writing.{GoodOutgoing, outgoingOf};
 ghost use Rattle.backend.specs.States.{Good, interfaceOf};
 ghost use Rattle.backend.specs.Events.{left, after, eventOf};
@@ -28,6 +31,8 @@ use ring::Outgoing;
 use ring::PAGE;
 use ring::REQ_CONS;
 use ring::REQ_PROD;
+use ring::REQUESTS;
+use ring::RESPONSES;
 use ring::RSP_CONS;
 use ring::RSP_PROD;
 use toeplitz::KEY_LENGTH;
@@ -50,11 +55,11 @@ pub fn event(interface: Interface, page: &mut [u8]) -> Handled
     let mut header = message.header;
     let mut payload = message.payload;
     let mut taken = message.taken;
-    let mut req_cons = incoming.req_cons;
-    let mut ack = outgoing.ack;
+    let mut req_cons = incoming.cons;
+    let mut ack = outgoing.octets;
     let mut ack_length = outgoing.length;
     let mut written = outgoing.written;
-    let mut rsp_prod = outgoing.rsp_prod;
+    let mut rsp_prod = outgoing.prod;
     let answer = event_in_place(
         queues,
         &mut flags,
@@ -86,13 +91,13 @@ pub fn event(interface: Interface, page: &mut [u8]) -> Handled
                     payload,
                     taken,
                 },
-                req_cons,
+                cons: req_cons,
             },
             outgoing: Outgoing {
-                ack,
+                octets: ack,
                 length: ack_length,
                 written,
-                rsp_prod,
+                prod: rsp_prod,
             },
         },
     }
@@ -153,7 +158,7 @@ pub fn event_in_place<'a>(
             AREA - waiting,
         );
     }
-    ring::receive(&page[..], header, payload, taken, req_cons, unread);
+    read_request(&page[..], header, payload, taken, req_cons, unread);
     if ring::is_whole(header, *taken) {
         carry_over(
             queues,
@@ -178,7 +183,7 @@ pub fn event_in_place<'a>(
             AREA - waiting,
         );
     }
-    write_counts(page, *req_cons, *rsp_prod);
+    ring::write_counts(page, REQ_CONS, *req_cons, RSP_PROD, *rsp_prod);
     EventAnswer::Waiting
 }
 
@@ -187,7 +192,7 @@ fn unread_requests(page: &[u8], req_cons: u32) -> u32
     requires { ⌜ length (now page) ≡ pageSize ⌝ }
     ensures { λ r. ⌜ r ≡ less (countIn (now (page .entry)) reqProdAt) «req_cons» ⌝ }
 {
-    ring::difference(octets::read_u32(page, REQ_PROD), req_cons)
+    ring::unread_here(page, REQ_PROD, req_cons)
 }
 
 // How many octets of the response area the guest has not read. The own rsp_prod counts alike.
@@ -195,7 +200,28 @@ fn unread_responses(page: &[u8], rsp_prod: u32) -> u32
     requires { ⌜ length (now page) ≡ pageSize ⌝ }
     ensures { λ r. ⌜ r ≡ less «rsp_prod» (countIn (now (page .entry)) rspConsAt) ⌝ }
 {
-    ring::difference(rsp_prod, octets::read_u32(page, RSP_CONS))
+    ring::unread_by_other(page, RSP_CONS, rsp_prod)
+}
+
+// Reads octets of the present request, of which so many stand unread in the request area. An event that finds none is
+// spared the call.
+fn read_request(
+    page: &[u8],
+    header: &mut [u8; HEADER],
+    payload: &mut [u8; MAX_PAYLOAD],
+    taken: &mut u64,
+    req_cons: &mut u32,
+    unread: u32,
+)
+    requires { ⌜ (length (now page) ≡ pageSize) × (unread ≤ areaSize) × (isWhole (now header) (now taken) ≡ false) ⌝ }
+    requires { ⌜ now «req_cons» < 2 ^ 32 ⌝ }
+    ensures { λ _. ⌜ incomingOf (now (header .exit)) (now (payload .exit)) (now (taken .exit)) (now («req_cons» .exit))
+        ≡ receivedFrom requestsAt (now (page .entry))
+        (incomingOf (now (header .entry)) (now (payload .entry)) (now (taken .entry)) (now («req_cons» .entry))) unread ⌝ }
+{
+    if unread > 0 {
+        ring::receive(page, REQUESTS, header, payload, taken, req_cons, unread);
+    }
 }
 
 // Carries out the message, which is whole: its effect goes into the settings, and its ack is owed.
@@ -243,26 +269,18 @@ fn respond(
     req_cons: u32,
     room: u32,
 ) -> EventAnswer
-    requires { ⌜ length (now page) ≡ pageSize ⌝ }
-    requires { ⌜ GoodOutgoing (outgoingOf (now ack) size (now written) (now «rsp_prod»)) ⌝ }
+    requires { ⌜ (length (now page) ≡ pageSize) × (room ≤ areaSize) ⌝ }
+    requires { ⌜ GoodOutgoing maxAck (outgoingOf (now ack) size (now written) (now «rsp_prod»)) ⌝ }
     ensures { λ r. ⌜ Responds
         (outgoingOf (now (ack .entry)) size (now (written .entry)) (now («rsp_prod» .entry))) (now (page .entry))
         «req_cons» room r
         (outgoingOf (now (ack .entry)) size (now (written .exit)) (now («rsp_prod» .exit))) (now (page .exit)) ⌝ }
 {
-    ring::send(page, ack, size, written, rsp_prod, room);
-    write_counts(page, req_cons, *rsp_prod);
+    ring::send(page, RESPONSES, &ack[..], size, written, rsp_prod, room);
+    ring::write_counts(page, REQ_CONS, req_cons, RSP_PROD, *rsp_prod);
     if *written < size {
         EventAnswer::Owed
     } else {
         EventAnswer::Written
     }
-}
-
-fn write_counts(page: &mut [u8], req_cons: u32, rsp_prod: u32)
-    requires { ⌜ length (now page) ≡ pageSize ⌝ }
-    ensures { λ _. ⌜ now (page .exit) ≡ counted (now (page .entry)) «req_cons» «rsp_prod» ⌝ }
-{
-    octets::write_u32(page, REQ_CONS, req_cons);
-    octets::write_u32(page, RSP_PROD, rsp_prod);
 }

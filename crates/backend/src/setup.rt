@@ -51,13 +51,13 @@ fn at_setup(queues: u8) -> Interface
                 payload: [0; MAX_PAYLOAD],
                 taken: 0,
             },
-            req_cons: 0,
+            cons: 0,
         },
         outgoing: Outgoing {
-            ack: [0; MAX_ACK],
+            octets: [0; MAX_ACK],
             length: 0,
             written: 0,
-            rsp_prod: 0,
+            prod: 0,
         },
     }
 }

@@ -5,8 +5,16 @@ ghost use lib.ListN.{length};
 ghost use Rattle.io.specs.Counts.{Counts};
 ghost use Rattle.cases.specs.Cases.{Within};
 
+mod buffer;
+mod entries;
 mod print;
 
+pub use buffer::BUFFER;
+pub use buffer::blank;
+pub use buffer::fill;
+pub use buffer::patch;
+pub use entries::MAX_GIVEN;
+pub use entries::entries_in;
 pub use print::print_cut;
 pub use print::print_digest;
 pub use print::print_hex;

@@ -1,7 +1,8 @@
 // What the guest does to the page between the calls.
 ghost use mathlib.Core.Path.{_≡_};
 ghost use lib.ListN.{length};
-use cases::number_at;
+use cases::fill;
+use cases::patch;
 use cases::print_cut;
 use ring::AREA;
 use ring::REQ_CONS;
@@ -28,51 +29,6 @@ pub(crate) fn act(page: &mut [u8], kind: u8, body: &[u8])
         send(page, body);
     } else {
         take(page, body);
-    }
-}
-
-// The place, and the octets.
-fn patch(page: &mut [u8], body: &[u8]) {
-    if body.len() < 2 {
-        print_cut();
-        return;
-    }
-    let at = number_at(body, 0);
-    let n = body.len() - 2;
-    if page.len() < at {
-        print_cut();
-        return;
-    }
-    if page.len() - at < n {
-        print_cut();
-        return;
-    }
-    octets::copy(&mut page[at..at + n], &body[2..]);
-}
-
-// The place, how many octets, and the seed that they are made from.
-fn fill(page: &mut [u8], body: &[u8]) {
-    if body.len() < 8 {
-        print_cut();
-        return;
-    }
-    let at = number_at(body, 0);
-    let end = at + number_at(body, 2);
-    if page.len() < end {
-        print_cut();
-        return;
-    }
-    make(&mut page[at..end], octets::read_u32(body, 4));
-}
-
-// Octets that differ from each other, so that one at the wrong place is seen.
-fn make(part: &mut [u8], seed: u32) {
-    let mut x = seed as u64;
-    let mut i: usize = 0;
-    while i < part.len() {
-        x = (x * 1103515245 + 12345) % 4294967296;
-        part[i] = (x / 65536 % 256) as u8;
-        i += 1;
     }
 }
 

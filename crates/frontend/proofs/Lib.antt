@@ -7,3 +7,9 @@ pub mod Encodings
 pub mod Answers
 pub mod Leaves
 pub mod Theorems
+pub mod Goodness
+pub mod Starts
+pub mod Collects
+pub mod Ways
+pub mod GuestRules
+pub mod GuestPages

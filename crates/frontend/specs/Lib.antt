@@ -2,3 +2,7 @@
 pub mod Refusals
 pub mod Reader
 pub mod Writer
+pub mod Guest
+pub mod Calls
+pub mod Rules
+pub mod Inner

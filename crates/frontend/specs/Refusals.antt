@@ -13,3 +13,7 @@ valueNotListed = 11
 -- not an ack to this request
 abbrev pub notAnAck : ℕ
 notAnAck = 12
+
+-- a request begun while one is outstanding
+abbrev pub requestOutstanding : ℕ
+requestOutstanding = 13

@@ -1,6 +1,6 @@
 // Runs the cases of the file `cases` and prints a line for each. Cases of requests act on one interface, one
 // after the other.
-ghost use Prim.Native.Nat.{_*_, _≤_};
+ghost use Prim.Native.Nat.{_≤_};
 ghost use lib.ListN.{length};
 
 mod answers;
@@ -9,7 +9,9 @@ use answers::print_ack_answer;
 use answers::print_carried;
 use answers::print_written;
 use cases::Case;
+use cases::MAX_GIVEN;
 use cases::case_at;
+use cases::entries_in;
 use cases::number_at;
 use cases::print_cut;
 use frontend::Written;
@@ -32,9 +34,6 @@ const WRITE_SET_MAPPING: u8 = 5;
 
 // The longest output buffer of a case.
 const MAX_BUFFER: usize = 1100;
-
-// The most entries that a case gives the writer.
-const MAX_GIVEN: usize = 256;
 
 fn main() {
     let mut buffer = io::large_buffer();
@@ -179,18 +178,6 @@ fn write_first(buffer: &mut [u8], entries: &[u64], count: usize) -> Written
     requires { ⌜ count ≤ length (now entries) ⌝ }
 {
     frontend::write_set_mapping(buffer, &entries[0..count])
-}
-
-fn entries_in(given: &[u8], count: usize) -> [u64; MAX_GIVEN]
-    requires { ⌜ (count * 8 ≤ length (now given)) × (count ≤ 256) ⌝ }
-{
-    let mut entries = [0u64; MAX_GIVEN];
-    let mut k: usize = 0;
-    while k < count {
-        entries[k] = octets::read_u64(given, k * 8);
-        k += 1;
-    }
-    entries
 }
 
 // The type of the request, and the message to read.

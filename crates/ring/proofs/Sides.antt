@@ -9,8 +9,9 @@ use lib.ListN.{length, length-set}
 use lib.Dec.{ltb}
 use borrow.Author.Tests.{lt-leb}
 use Rattle.octets.proofs.Truth.{by-test}
-use Rattle.messages.specs.Wire.{headerSize}
-use Rattle.ring.specs.Page.{requestsAt, advanced, less, octetsIn}
+use Rattle.messages.specs.Wire.{headerSize, maxPayload}
+use Rattle.messages.specs.Requests.{maxAck}
+use Rattle.ring.specs.Page.{advanced, less, octetsIn}
 use Rattle.ring.specs.Reading.{messageLength, isWhole, whole, withOctet, received, receivedFrom, incomingAtSetup, GoodIncoming}
 use Rattle.ring.specs.Writing.{fitting, sent, outgoingAtSetup, GoodOutgoing}
 use Rattle.ring.specs.declared.Message.{Message}
@@ -53,19 +54,19 @@ less-advanced c n hc hn = omega arith
 pub none-waits : (header : List ℕ) → isWhole header 0 ≡ false
 none-waits header = lt-leb (messageLength header) 0 (omega arith)
 
-pub good-received : (page : List ℕ) (i : Incoming) (n : ℕ) → GoodIncoming i → whole (receivedFrom page i n .message) ≡ false
-    → GoodIncoming (receivedFrom page i n)
+pub good-received : (area : ℕ) (page : List ℕ) (i : Incoming) (n kept : ℕ) → GoodIncoming kept i
+    → whole (receivedFrom area page i n .message) ≡ false → GoodIncoming kept (receivedFrom area page i n)
 unfolding receivedFrom
-good-received page i n good waits =
-    let g = grown (octetsIn requestsAt page (i .«req_cons») n) (i .message) in
+good-received area page i n kept good waits =
+    let g = grown (octetsIn area page (i .cons) n) (i .message) in
     record { header = g .header ∙ good .header; payload = g .payload ∙ good .payload; waiting = waits; count = omega arith }
 
-pub good-sent : (o : Outgoing) (room : ℕ) → GoodOutgoing o → GoodOutgoing (sent o (fitting o room))
-good-sent o room good =
+pub good-sent : (o : Outgoing) (room most : ℕ) → GoodOutgoing most o → GoodOutgoing most (sent o (fitting o room))
+good-sent o room most good =
     record { size = good .size; within = omega (arith, good .within); short = good .short; count = omega arith }
 
-pub good-incoming-at-setup : GoodIncoming incomingAtSetup
+pub good-incoming-at-setup : GoodIncoming maxPayload incomingAtSetup
 good-incoming-at-setup = record { header = refl; payload = refl; waiting = none-waits (incomingAtSetup .message .header); count = omega arith }
 
-pub good-outgoing-at-setup : GoodOutgoing outgoingAtSetup
+pub good-outgoing-at-setup : GoodOutgoing maxAck outgoingAtSetup
 good-outgoing-at-setup = record { size = refl; within = omega arith; short = omega arith; count = omega arith }

@@ -1,43 +1,38 @@
 -- Octets of a page that stores elsewhere leave as they were.
 -- Assumes nothing.
-use mathlib.Core.Path.{_≡_, refl, sym, ap, ap₂, _∙_}
+use mathlib.Core.Path.{_≡_, refl, ap, ap₂, _∙_}
 use mathlib.Core.List.{List, [], _∷_}
+use mathlib.Core.Logic.{_⊎_, inl, inr}
 use Prim.Native.Nat.{ℕ, zero, suc, _+_, _%_, _^_, _≤_, _<_}
-use native.Mathlib.Nat.{add-zero, zero-add}
 use native.Mathlib.Omega.{arith}
 use lib.ListN.{length, getD, set, length-set}
-use lib.Seq.{sets, length-sets, getD-set-same, getD-set-other}
-use Rattle.octets.specs.Numbers.{octetsOf}
-use Rattle.octets.proofs.Numbers.{length-octets, number-same, number-octets-alone}
+use lib.Seq.{getD-set-same, getD-set-other}
 use Rattle.ring.proofs.Places.{octets-suc, octets-none, put-suc}
-use Rattle.ring.specs.Page.{areaSize, reqConsAt, rspProdAt, countIn, counted, offsets, octetsIn, put}
+use Rattle.ring.proofs.CountLaws.{count-beside, count-length, count-back, count-other}
+use Rattle.ring.specs.Page.{areaSize, reqConsAt, reqProdAt, rspConsAt, rspProdAt, countIn, withCount, counted, countedByGuest}
+use Rattle.ring.specs.Page.{offsets, octetsIn, put}
 
--- stores at a run of places, and an octet before or behind it
-sets-before : (vs l : List ℕ) (a i : ℕ) → i < a → getD (sets l a vs) i 0 ≡ getD l i 0
-sets-before [] l a i h = refl
-sets-before (v ∷ vs) l a i h = sets-before vs (set l a v) (suc a) i (omega arith) ∙ getD-set-other l a i v 0 (λ e. omega arith)
-
-sets-behind : (vs l : List ℕ) (a i : ℕ) → a + length vs ≤ i → getD (sets l a vs) i 0 ≡ getD l i 0
-sets-behind [] l a i h = refl
-sets-behind (v ∷ vs) l a i h = sets-behind vs (set l a v) (suc a) i (omega arith) ∙ getD-set-other l a i v 0 (λ e. omega arith)
-
--- an octet that is none of the two own counts: of the counts between them, or behind them
+-- an octet that is none of the host's counts: of the counts between them, or behind them
 pub counted-between : (page : List ℕ) (c p i : ℕ) → 4 ≤ i → i < rspProdAt → getD (counted page c p) i 0 ≡ getD page i 0
 counted-between page c p i low high =
-    let size = length-octets 4 c in
-    sets-before (octetsOf 4 p) (sets page reqConsAt (octetsOf 4 c)) rspProdAt i high
-    ∙ sets-behind (octetsOf 4 c) page reqConsAt i (omega arith)
+    count-beside (withCount page reqConsAt c) rspProdAt p i (inl high) ∙ count-beside page reqConsAt c i (inr (omega arith))
 
 pub counted-behind : (page : List ℕ) (c p i : ℕ) → 16 ≤ i → getD (counted page c p) i 0 ≡ getD page i 0
 counted-behind page c p i high =
-    let first = length-octets 4 c in
-    let second = length-octets 4 p in
-    sets-behind (octetsOf 4 p) (sets page reqConsAt (octetsOf 4 c)) rspProdAt i (omega arith)
-    ∙ sets-behind (octetsOf 4 c) page reqConsAt i (omega arith)
+    count-beside (withCount page reqConsAt c) rspProdAt p i (inr (omega arith)) ∙ count-beside page reqConsAt c i (inr (omega arith))
 
 pub counted-length : (page : List ℕ) (c p : ℕ) → length (counted page c p) ≡ length page
-counted-length page c p =
-    length-sets (sets page reqConsAt (octetsOf 4 c)) rspProdAt (octetsOf 4 p) ∙ length-sets page reqConsAt (octetsOf 4 c)
+counted-length page c p = count-length (withCount page reqConsAt c) rspProdAt p ∙ count-length page reqConsAt c
+
+-- an octet that is none of the guest's counts
+pub guest-counted-beside : (page : List ℕ) (c p i : ℕ) → (i < reqProdAt) ⊎ (rspProdAt ≤ i) → getD (countedByGuest page c p) i 0 ≡ getD page i 0
+guest-counted-beside page c p i (inl low) =
+    count-beside (withCount page rspConsAt c) reqProdAt p i (inl low) ∙ count-beside page rspConsAt c i (inl (omega arith))
+guest-counted-beside page c p i (inr high) =
+    count-beside (withCount page rspConsAt c) reqProdAt p i (inr (omega arith)) ∙ count-beside page rspConsAt c i (inr (omega arith))
+
+pub guest-counted-length : (page : List ℕ) (c p : ℕ) → length (countedByGuest page c p) ≡ length page
+guest-counted-length page c p = count-length (withCount page rspConsAt c) reqProdAt p ∙ count-length page rspConsAt c
 
 -- an octet at which none of xs is put
 pub put-other : (area : ℕ) (xs page : List ℕ) (c i : ℕ)
@@ -60,38 +55,43 @@ pub counted-octets : (area : ℕ) (page : List ℕ) (a b n c : ℕ) → 16 ≤ a
 counted-octets area page a b n c h =
     octets-agree area (counted page a b) page (λ o l. counted-behind page a b (area + o) (omega arith)) n c
 
--- what a run of stores leaves at its places
-sets-at : (vs l : List ℕ) (a k : ℕ) → k < length vs → a + length vs ≤ length l → getD (sets l a vs) (a + k) 0 ≡ getD vs k 0
-sets-at (v ∷ vs) l a zero h room = rw add-zero (sets-before vs (set l a v) (suc a) a (omega arith) ∙ getD-set-same l a v 0 (omega arith))
-sets-at (v ∷ vs) l a (suc k) h room =
-    let place : a + suc k ≡ suc a + k = omega arith in
-    let size = length-set l a v in
-    ap (λ (i : ℕ). getD (sets (set l a v) (suc a) vs) i 0) place ∙ sets-at vs (set l a v) (suc a) k (omega arith) (omega arith)
+-- and where the guest's are
+pub guest-counted-octets : (area : ℕ) (page : List ℕ) (a b n c : ℕ) → 16 ≤ area
+    → octetsIn area (countedByGuest page a b) c n ≡ octetsIn area page c n
+guest-counted-octets area page a b n c h =
+    octets-agree area (countedByGuest page a b) page (λ o l. guest-counted-beside page a b (area + o) (inr (omega arith))) n c
 
--- so the own counts are read back from the page
+-- the own counts are read back from the page
 module _ (page : List ℕ) (c p : ℕ) (room : 16 ≤ length page) where
   pub counted-cons : c < 2 ^ 32 → countIn (counted page c p) reqConsAt ≡ c
   counted-cons small =
-      let first = length-octets 4 c in
-      number-same 4 (counted page c p) (octetsOf 4 c) reqConsAt 0
-      (λ k l. sets-before (octetsOf 4 p) (sets page reqConsAt (octetsOf 4 c)) rspProdAt (reqConsAt + k) (omega arith)
-      ∙ sets-at (octetsOf 4 c) page reqConsAt k (omega arith) (omega arith)
-      ∙ ap (λ (i : ℕ). getD (octetsOf 4 c) i 0) (sym (zero-add k)))
-      ∙ number-octets-alone 4 c (omega arith)
+      count-other (withCount page reqConsAt c) rspProdAt p reqConsAt (inl (omega arith)) ∙ count-back page reqConsAt c (omega arith) small
 
   pub counted-prod : p < 2 ^ 32 → countIn (counted page c p) rspProdAt ≡ p
   counted-prod small =
-      let second = length-octets 4 p in
-      let size = length-sets page reqConsAt (octetsOf 4 c) in
-      number-same 4 (counted page c p) (octetsOf 4 p) rspProdAt 0
-      (λ k l. sets-at (octetsOf 4 p) (sets page reqConsAt (octetsOf 4 c)) rspProdAt k (omega arith) (omega arith)
-      ∙ ap (λ (i : ℕ). getD (octetsOf 4 p) i 0) (sym (zero-add k)))
-      ∙ number-octets-alone 4 p (omega arith)
+      let size = count-length page reqConsAt c in
+      count-back (withCount page reqConsAt c) rspProdAt p (omega arith) small
 
--- and the other two are as they were
+  pub guest-counted-cons : c < 2 ^ 32 → countIn (countedByGuest page c p) rspConsAt ≡ c
+  guest-counted-cons small =
+      count-other (withCount page rspConsAt c) reqProdAt p rspConsAt (inr (omega arith)) ∙ count-back page rspConsAt c (omega arith) small
+
+  pub guest-counted-prod : p < 2 ^ 32 → countIn (countedByGuest page c p) reqProdAt ≡ p
+  guest-counted-prod small =
+      let size = count-length page rspConsAt c in
+      count-back (withCount page rspConsAt c) reqProdAt p (omega arith) small
+
+-- and the other end's are as they were
 pub counted-others : (page : List ℕ) (c p at : ℕ) → 4 ≤ at → at + 4 ≤ rspProdAt → countIn (counted page c p) at ≡ countIn page at
 counted-others page c p at low high =
-    number-same 4 (counted page c p) page at at (λ k l. counted-between page c p (at + k) (omega arith) (omega arith))
+    count-other (withCount page reqConsAt c) rspProdAt p at (inl (omega arith)) ∙ count-other page reqConsAt c at (inr (omega arith))
+
+pub guest-counted-others : (page : List ℕ) (c p at : ℕ) → (at + 4 ≤ reqProdAt) ⊎ (rspProdAt ≤ at)
+    → countIn (countedByGuest page c p) at ≡ countIn page at
+guest-counted-others page c p at (inl low) =
+    count-other (withCount page rspConsAt c) reqProdAt p at (inl low) ∙ count-other page rspConsAt c at (inl (omega arith))
+guest-counted-others page c p at (inr high) =
+    count-other (withCount page rspConsAt c) reqProdAt p at (inr (omega arith)) ∙ count-other page rspConsAt c at (inr (omega arith))
 
 -- octets put into an area stand there
 pub put-stands : (area : ℕ) (xs page : List ℕ) (c : ℕ) → length xs ≤ areaSize → area + areaSize ≤ length page

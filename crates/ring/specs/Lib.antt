@@ -1,4 +1,5 @@
 -- The definitions that the contracts of `ring` cite.
+pub mod Refusals
 pub mod Page
 pub mod Reading
 pub mod Writing

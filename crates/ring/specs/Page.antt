@@ -43,9 +43,15 @@ advanced c n = (c + n) % 2 ^ 32
 abbrev pub less : ℕ → ℕ → ℕ
 less a b = (a + (2 ^ 32 - b)) % 2 ^ 32
 
--- the page with both counts of the host
+-- the page with a count written to its place; with both counts of the host, and with both of the guest
+abbrev pub withCount : List ℕ → ℕ → ℕ → List ℕ
+withCount page at c = sets page at (octetsOf 4 c)
+
 abbrev pub counted : List ℕ → ℕ → ℕ → List ℕ
-counted page reqCons rspProd = sets (sets page reqConsAt (octetsOf 4 reqCons)) rspProdAt (octetsOf 4 rspProd)
+counted page reqCons rspProd = withCount (withCount page reqConsAt reqCons) rspProdAt rspProd
+
+abbrev pub countedByGuest : List ℕ → ℕ → ℕ → List ℕ
+countedByGuest page rspCons reqProd = withCount (withCount page rspConsAt rspCons) reqProdAt reqProd
 
 -- where the n octets from count c on stand in an area: that with count c at c modulo 1,024. A count may run past 2 ^ 32
 -- here, since 1,024 divides it

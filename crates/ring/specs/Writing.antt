@@ -1,4 +1,4 @@
--- The ack, and octets of it put into the response area.
+-- A message, and octets of it put into an area. A writing side is that of either end.
 -- Assumes nothing.
 use mathlib.Core.Path.{_≡_}
 use mathlib.Core.List.{List}
@@ -10,31 +10,32 @@ use Rattle.ring.specs.declared.Outgoing.{Outgoing}
 
 -- the writing side by its parts
 abbrev pub outgoingOf : List ℕ → ℕ → ℕ → ℕ → Outgoing
-outgoingOf ack size written rspProd = record { ack = ack; length = size; written = written; «rsp_prod» = rspProd }
+outgoingOf octets size written prod = record { octets = octets; length = size; written = written; prod = prod }
 
--- how many octets of the ack are still owed, and how many of them fit into `room` octets
+-- how many octets of the message are still owed, and how many of them fit into `room` octets
 abbrev pub owed : Outgoing → ℕ
 owed o = o .length - o .written
 
 abbrev pub fitting : Outgoing → ℕ → ℕ
 fitting o room = min room (owed o)
 
--- the next n octets of the ack
+-- the next n octets of the message
 abbrev pub sentOctets : Outgoing → ℕ → List ℕ
-sentOctets o n = take n (drop (o .written) (o .ack))
+sentOctets o n = take n (drop (o .written) (o .octets))
 
 -- the writing side with n octets more written
 abbrev pub sent : Outgoing → ℕ → Outgoing
 sent o n =
-    record { ack = o .ack; length = o .length; written = o .written + n; «rsp_prod» = advanced (o .«rsp_prod») n }
+    record { octets = o .octets; length = o .length; written = o .written + n; prod = advanced (o .prod) n }
 
--- at setup: no ack
+-- the host's at setup: no ack
 abbrev pub outgoingAtSetup : Outgoing
-outgoingAtSetup = record { ack = replicate maxAck 0; length = 0; written = 0; «rsp_prod» = 0 }
+outgoingAtSetup = record { octets = replicate maxAck 0; length = 0; written = 0; prod = 0 }
 
--- what holds of the writing side: no more of the ack is written than it has, and it has its place
-pub record GoodOutgoing (o : Outgoing) : Type 0 where
-  pub size : length (o .ack) ≡ maxAck
+-- what holds of a writing side with a place for so many octets: no more of the message is written than it has, and it has
+-- its place
+pub record GoodOutgoing (most : ℕ) (o : Outgoing) : Type 0 where
+  pub size : length (o .octets) ≡ most
   pub within : o .written ≤ o .length
-  pub short : o .length ≤ maxAck
-  pub count : o .«rsp_prod» < 2 ^ 32
+  pub short : o .length ≤ most
+  pub count : o .prod < 2 ^ 32

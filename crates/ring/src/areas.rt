@@ -2,15 +2,8 @@
 ghost use mathlib.Core.Path.{_≡_};
 ghost use Prim.Native.Nat.{_+_, _≤_, min};
 ghost use lib.ListN.{length};
-ghost use Rattle.ring.specs.Page.{areaSize, less, octetsIn, put};
+ghost use Rattle.ring.specs.Page.{areaSize, octetsIn, put};
 use crate::AREA;
-
-// One count less another. Both run over from 4,294,967,295 to 0.
-pub fn difference(a: u32, b: u32) -> u32
-    ensures { λ r. ⌜ r ≡ less a b ⌝ }
-{
-    std::num::wrapping_sub_u32(a, b)
-}
 
 // Fills `into` with the octets of the area that stands at `area`, from `count` on.
 pub fn read_area(page: &[u8], area: usize, count: u32, into: &mut [u8])

@@ -1,10 +1,14 @@
-// The shared page of a control ring: its counts, the request area that the host reads, and the response area that
-// it writes. Of a message the ring knows only its length.
+// The shared page of a control ring: its counts, and its areas. One end writes an area and the other end reads it; the
+// functions are for both, with the area and the places of the counts as parameters. Of a message the ring knows only its
+// length.
 mod areas;
+mod counts;
 mod receiving;
 mod sending;
 
-pub use areas::difference;
+pub use counts::unread_by_other;
+pub use counts::unread_here;
+pub use counts::write_counts;
 use messages::HEADER;
 use messages::MAX_ACK;
 use messages::MAX_PAYLOAD;
@@ -38,19 +42,19 @@ pub struct Message {
     pub taken: u64,
 }
 
-// The reading side of a ring: the present message, and the count of octets read.
+// The host's reading side: the present message, and the count of octets read.
 #[repr(C)]
 pub struct Incoming {
     pub message: Message,
-    pub req_cons: u32,
+    pub cons: u32,
 }
 
-// The writing side of a ring: an ack of `length` octets, of which `written` are on the page, and the count of
-// octets written.
+// The host's writing side: a message of `length` octets, of which `written` are on the page, and the count of octets
+// written.
 #[repr(C)]
 pub struct Outgoing {
-    pub ack: [u8; MAX_ACK],
+    pub octets: [u8; MAX_ACK],
     pub length: usize,
     pub written: usize,
-    pub rsp_prod: u32,
+    pub prod: u32,
 }

@@ -1,25 +1,21 @@
-// The present message read from the request area: first what is missing of its header, then of its payload, until
+// The present message read from an area: first what is missing of its header, then of its payload, until
 // it is whole or no octet is left. Octets of a following message stay.
 ghost use mathlib.Core.Path.{_≡_};
 ghost use mathlib.Core.Bool.{false};
 ghost use Prim.Native.Nat.{_+_, _-_, _^_, _≤_, _<_};
 ghost use lib.ListN.{length};
 ghost use lib.Seq.{sets};
-ghost use Rattle.messages.specs.Wire.{headerSize, maxPayload};
-ghost use Rattle.ring.specs.Page.{pageSize, areaSize, requestsAt, octetsIn};
+ghost use Rattle.messages.specs.Wire.{headerSize};
+ghost use Rattle.ring.specs.Page.{areaSize, octetsIn};
 ghost use Rattle.ring.specs.Reading.{messageLength, isWhole, incomingOf, receivedFrom};
 ghost use Rattle.ring.specs.Inner.{headerMoved, payloadMoved};
-use crate::REQUESTS;
 use crate::areas::least;
 use crate::areas::read_area;
 use messages::HEADER;
-use messages::MAX_PAYLOAD;
 use messages::SIZE_AT;
 
-// Octets of a header and of the payload kept, as the octets taken of a message are counted.
+// Octets of a header, as the octets taken of a message are counted.
 const HEADER_OCTETS: u64 = HEADER as u64;
-
-const KEPT: u64 = MAX_PAYLOAD as u64;
 
 // Whether all octets of the message have been taken.
 pub fn is_whole(header: &[u8; HEADER], taken: u64) -> bool
@@ -36,24 +32,26 @@ fn message_length(header: &[u8]) -> u64
     HEADER_OCTETS + octets::read_u32(header, SIZE_AT) as u64
 }
 
-// Reads the octets of the present message that stand among the `unread` ones, and counts them.
+// Reads the octets of the present message that stand among the `unread` ones of the area at `area`, and counts them.
 pub fn receive(
     page: &[u8],
+    area: usize,
     header: &mut [u8; HEADER],
-    payload: &mut [u8; MAX_PAYLOAD],
+    payload: &mut [u8],
     taken: &mut u64,
-    req_cons: &mut u32,
+    cons: &mut u32,
     unread: u32,
 )
-    requires { ⌜ (length (now page) ≡ pageSize) × (unread ≤ areaSize) × (isWhole (now header) (now taken) ≡ false) ⌝ }
-    ensures { λ _. ⌜ incomingOf (now (header .exit)) (now (payload .exit)) (now (taken .exit)) (now («req_cons» .exit))
-        ≡ receivedFrom (now (page .entry)) (incomingOf (now (header .entry)) (now (payload .entry)) (now (taken .entry)) (now («req_cons» .entry))) unread ⌝ }
+    requires { ⌜ (area + areaSize ≤ length (now page)) × (unread ≤ areaSize) × (isWhole (now header) (now taken) ≡ false) ⌝ }
+    ensures { λ _. ⌜ incomingOf (now (header .exit)) (now (payload .exit)) (now (taken .exit)) (now (cons .exit))
+        ≡ receivedFrom area (now (page .entry)) (incomingOf (now (header .entry)) (now (payload .entry)) (now (taken .entry)) (now (cons .entry))) unread ⌝ }
 {
     let before = *taken;
-    let count = *req_cons;
-    let some = read_header(page, header, before, count, unread as u64);
+    let count = *cons;
+    let some = read_header(page, area, header, before, count, unread as u64);
     let more = read_payload(
         page,
+        area,
         &header[..],
         payload,
         before + some,
@@ -62,43 +60,39 @@ pub fn receive(
     );
     let moved = some + more;
     *taken = before + moved;
-    *req_cons = std::num::wrapping_add_u32(count, moved as u32);
+    *cons = std::num::wrapping_add_u32(count, moved as u32);
 }
 
 // Reads what is missing of the header, as far as it stands among the n octets from `count` on, and answers how many
 // octets that is.
-fn read_header(page: &[u8], header: &mut [u8], taken: u64, count: u32, n: u64) -> u64
-    requires { ⌜ (length (now page) ≡ pageSize) × (length (now header) ≡ headerSize) ⌝ }
+fn read_header(page: &[u8], area: usize, header: &mut [u8], taken: u64, count: u32, n: u64) -> u64
+    requires { ⌜ (area + areaSize ≤ length (now page)) × (length (now header) ≡ headerSize) ⌝ }
     ensures { λ r. ⌜ r ≡ headerMoved taken n ⌝ }
-    ensures { λ r. ⌜ now (header .exit) ≡ sets (now (header .entry)) taken (octetsIn requestsAt (now (page .entry)) count r) ⌝ }
+    ensures { λ r. ⌜ now (header .exit) ≡ sets (now (header .entry)) taken (octetsIn area (now (page .entry)) count r) ⌝ }
 {
     if taken >= HEADER_OCTETS {
         return 0;
     }
     let k = least(HEADER_OCTETS - taken, n);
     let start = taken as usize;
-    read_area(
-        page,
-        REQUESTS,
-        count,
-        &mut header[start..start + k as usize],
-    );
+    read_area(page, area, count, &mut header[start..start + k as usize]);
     k
 }
 
-// Reads what is missing of the payload alike. Octets of it behind the first 1,024 are counted and dropped.
+// Reads what is missing of the payload alike. Octets of it for which there is no place are counted and dropped.
 fn read_payload(
     page: &[u8],
+    area: usize,
     header: &[u8],
     payload: &mut [u8],
     taken: u64,
     count: u32,
     n: u64,
 ) -> u64
-    requires { ⌜ (length (now page) ≡ pageSize) × (length (now header) ≡ headerSize) × (length (now payload) ≡ maxPayload) ⌝ }
+    requires { ⌜ (area + areaSize ≤ length (now page)) × (length (now header) ≡ headerSize) ⌝ }
     requires { ⌜ (n ≤ areaSize) × (taken ≤ messageLength (now header)) ⌝ }
     ensures { λ r. ⌜ r ≡ payloadMoved (now (header .entry)) taken n ⌝ }
-    ensures { λ r. ⌜ now (payload .exit) ≡ sets (now (payload .entry)) (taken - headerSize) (octetsIn requestsAt (now (page .entry)) count r) ⌝ }
+    ensures { λ r. ⌜ now (payload .exit) ≡ sets (now (payload .entry)) (taken - headerSize) (octetsIn area (now (page .entry)) count r) ⌝ }
     ensures { λ r. ⌜ taken + r < 2 ^ 33 ⌝ }
 {
     if taken < HEADER_OCTETS {
@@ -106,10 +100,11 @@ fn read_payload(
     }
     let k = least(message_length(header) - taken, n);
     let start = taken - HEADER_OCTETS;
-    if start < KEPT {
-        let kept = least(KEPT - start, k) as usize;
+    let room = payload.len() as u64;
+    if start < room {
+        let kept = least(room - start, k) as usize;
         let from = start as usize;
-        read_area(page, REQUESTS, count, &mut payload[from..from + kept]);
+        read_area(page, area, count, &mut payload[from..from + kept]);
     }
     k
 }

@@ -47,7 +47,7 @@ use Rattle.zwerfen.proofs.Places.{Place, rowsAt, lie}
 abbrev pub octets : ℕ → RattleType
 octets n = Array u8 n
 
-abbrev place : RattleType → ℕ → Place
+abbrev pub place : RattleType → ℕ → Place
 place row at = record { row = row; at = at }
 
 abbrev pub places : ℕ → List Place
@@ -75,24 +75,24 @@ parts h =
     let s = h .settings in
     let m = h .incoming .message in
     let a = h .outgoing in
-    let sent : Sent = (a .ack, (a .length, (a .written, (a .«rsp_prod», tt)))) in
-    let read : List ℕ × (List ℕ × (ℕ × (ℕ × Sent))) = (m .header, (m .payload, (m .taken, (h .incoming .«req_cons», sent)))) in
+    let sent : Sent = (a .octets, (a .length, (a .written, (a .prod, tt)))) in
+    let read : List ℕ × (List ℕ × (ℕ × (ℕ × Sent))) = (m .header, (m .payload, (m .taken, (h .incoming .cons, sent)))) in
     (s .flags, (s .key, (s .mapping .entries, (s .mapping .count, read))))
 
 -- a struct's fields as the logic has them, and in memory
-abbrev members : List Field → List Member
+abbrev pub members : List Field → List Member
 members [] = []
 members (F ∷ Fs) = record { row = F .row; ty = lone (F .row .mir) } ∷ members Fs
 
-abbrev fieldsIn : Share → (D : Declared) → Denots (rowsOf (members (D .parts))) → ℕ → ℕ → Fml
+abbrev pub fieldsIn : Share → (D : Declared) → Denots (rowsOf (members (D .parts))) → ℕ → ℕ → Fml
 fieldsIn t D a b o = partsAt t (members (D .parts)) 0 a b o
 
 module _ {M : Type 1} (𝓤 : URA M) (H : Heap 𝓤) (A : Atoms 𝓤) (W : Given 𝓤 H A) (t : Share) where
   -- the fields, at any values, give the struct again
-  abbrev Again : Declared → ℕ → ℕ → SProp 𝓤
+  abbrev pub Again : Declared → ℕ → ℕ → SProp 𝓤
   Again D b o = PartsBack 𝓤 H A t (D .name) (members (D .parts)) b o
 
-  together : (D : Declared) (a : Denots (rowsOf (members (D .parts)))) (b o : ℕ)
+  pub together : (D : Declared) (a : Denots (rowsOf (members (D .parts)))) (b o : ℕ)
       → ent 𝓤 (sep 𝓤 (sem 𝓤 H A (fieldsIn t D a b o)) (Again D b o))
       (sem 𝓤 H A (partAt (Struct (shapeOf (D .name) (members (D .parts)))) t a b o))
   together D a b o =
@@ -170,7 +170,7 @@ module _ {M : Type 1} (𝓤 : URA M) (H : Heap 𝓤) (A : Atoms 𝓤) (W : Given
       rewrite ! 13 (λ (zs : List ℕ). ‵ (partAt (octets 128) t zs b (o + 0 + 42 + 0))) (map-id (h .settings .mapping .entries)) refl $
       rewrite ! 8 (λ (zs : List ℕ). ‵ (partAt (octets 8) t zs b (o + 176 + 0 + 0))) (map-id (h .incoming .message .header)) refl $
       rewrite ! 7 (λ (zs : List ℕ). ‵ (partAt (octets 1024) t zs b (o + 176 + 0 + 8))) (map-id (h .incoming .message .payload)) refl $
-      rewrite ! 4 (λ (zs : List ℕ). ‵ (partAt (octets 24) t zs b (o + 1224 + 0))) (map-id (h .outgoing .ack)) refl $ fjoin ! $ move ! (1 ∷ 0 ∷ []) $
+      rewrite ! 4 (λ (zs : List ℕ). ‵ (partAt (octets 24) t zs b (o + 1224 + 0))) (map-id (h .outgoing .octets)) refl $ fjoin ! $ move ! (1 ∷ 0 ∷ []) $
       fjoin ! $ move ! (1 ∷ 0 ∷ []) $ fjoin ! $ move ! (1 ∷ 0 ∷ []) $ fjoin ! $ move ! (6 ∷ 0 ∷ []) $ fjoin ! $ move ! (2 ∷ 0 ∷ []) $ fjoin ! $
       move ! (2 ∷ 0 ∷ []) $ fjoin ! $ move ! (2 ∷ 0 ∷ []) $ fjoin ! $ move ! (4 ∷ 0 ∷ []) $ fjoin ! $ move ! (4 ∷ 0 ∷ []) $ fjoin ! $
       move ! (5 ∷ 0 ∷ []) $
@@ -184,7 +184,7 @@ module _ {M : Type 1} (𝓤 : URA M) (H : Heap 𝓤) (A : Atoms 𝓤) (W : Given
       rewrite ! 10 (λ (zs : List ℕ). ‵ (partAt (octets 128) t zs b (o + 0 + 42 + 0))) (sym (map-id (h′ .settings .mapping .entries))) refl $
       rewrite ! 8 (λ (zs : List ℕ). ‵ (partAt (octets 8) t zs b (o + 176 + 0 + 0))) (sym (map-id (h′ .incoming .message .header))) refl $
       rewrite ! 7 (λ (zs : List ℕ). ‵ (partAt (octets 1024) t zs b (o + 176 + 0 + 8))) (sym (map-id (h′ .incoming .message .payload))) refl $
-      rewrite ! 4 (λ (zs : List ℕ). ‵ (partAt (octets 24) t zs b (o + 1224 + 0))) (sym (map-id (h′ .outgoing .ack))) refl $ move ! (1 ∷ []) $ drop ! $
+      rewrite ! 4 (λ (zs : List ℕ). ‵ (partAt (octets 24) t zs b (o + 1224 + 0))) (sym (map-id (h′ .outgoing .octets))) refl $ move ! (1 ∷ []) $ drop ! $
       nothing ! $ move ! (9 ∷ 0 ∷ []) $ fjoin ! $ move ! (9 ∷ 0 ∷ []) $ fjoin ! $ move ! (0 ∷ 15 ∷ []) $
       use2 W (‵ (partAt (Struct (shape N.the-type)) t (N.the-type .to (h′ .settings .mapping)) b (o + 0 + 42)))
       (together N.the-type (N.the-type .to (h′ .settings .mapping)) b (o + 0 + 42)) $

@@ -11,6 +11,9 @@ use Rattle.backend.specs.Events.{After}
 use Rattle.backend.specs.declared.Interface.{Interface}
 use Rattle.frontend.specs.Writer.{written}
 use Rattle.frontend.specs.Reader.{Reading, status, statusAndFlags}
+use Rattle.frontend.specs.Guest.{Told, number, acked, toldNumber}
+use Rattle.frontend.specs.Calls as guest
+use Rattle.frontend.specs.declared.Guest.{Guest}
 
 -- the number of a call that is not refused
 abbrev pub done : ℕ
@@ -77,3 +80,18 @@ pub record Writes (message : Outcome (List ℕ)) (buffer : List ℕ) (before r :
 -- what an event answers by its number, and leaves
 abbrev pub left : ℕ → Interface → List ℕ → After
 left r s page = record { answer = r; state = s; page = page }
+
+-- of what a call of the guest's end tells: the status, and the flags, where an ack says them
+abbrev pub statusOfTold : Told → ℕ → ℕ
+statusOfTold (number k) before = before
+statusOfTold (acked r) before = statusTold r before
+
+abbrev pub flagsOfTold : Told → ℕ → ℕ
+flagsOfTold (number k) before = before
+flagsOfTold (acked r) before = flagsTold r before
+
+-- a call of the guest's end, by what it answers and leaves: the number r, the guest and the octets of the page
+pub record Leaves (a : guest.After) (r : ℕ) (g : Guest) (page : List ℕ) : Type 0 where
+  pub answer : r ≡ toldNumber (a .answer)
+  pub state : g ≡ a .state
+  pub octets : page ≡ a .page

@@ -4,12 +4,15 @@ ghost use mathlib.Core.Path.{_≡_};
 ghost use mathlib.Core.Bool.{true};
 ghost use lib.ListN.{take};
 ghost use Rattle.messages.specs.Settings.{isListed};
-ghost use Rattle.steering.specs.Steering.{choiceOf, steered};
+ghost use Rattle.steering.specs.Steering.{steered};
 ghost use Rattle.backend.specs.States.{Good, interfaceOf, setUpOutcome, steeredBy};
 ghost use Rattle.backend.specs.Events.{answerNumber, eventOf};
 ghost use Rattle.zwerfen.specs.Answers.{numberOf, placed, itself, left, Steers};
 use crate::DONE;
 use crate::HASHED;
+use crate::PAGE_LENGTH;
+use crate::REQUEST_COUNT;
+use crate::RESPONSE_COUNT;
 use crate::UNHASHED;
 use backend::EventAnswer;
 use backend::Interface;
@@ -26,12 +29,6 @@ const WAITING: u32 = 0;
 const ACK_WRITTEN: u32 = 1;
 
 const ACK_OWED: u32 = 2;
-
-const PAGE_LENGTH: u32 = 3;
-
-const REQUEST_COUNT: u32 = 4;
-
-const RESPONSE_COUNT: u32 = 5;
 
 // The refusal of a setup.
 const QUEUES: u32 = 6;
@@ -90,11 +87,11 @@ pub extern "C" fn zwerfen_event(interface: &mut Interface, page: &mut [u8]) -> u
         &mut interface.incoming.message.header,
         &mut interface.incoming.message.payload,
         &mut interface.incoming.message.taken,
-        &mut interface.incoming.req_cons,
-        &mut interface.outgoing.ack,
+        &mut interface.incoming.cons,
+        &mut interface.outgoing.octets,
         &mut interface.outgoing.length,
         &mut interface.outgoing.written,
-        &mut interface.outgoing.rsp_prod,
+        &mut interface.outgoing.prod,
     )
 }
 

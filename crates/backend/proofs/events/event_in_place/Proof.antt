@@ -3,7 +3,7 @@
 -- Assumes nothing.
 use mathlib.Core.Path.{_≡_, sym, ap, subst, _∙_}
 use mathlib.Core.List.{List}
-use mathlib.Core.Bool.{true, false}
+use mathlib.Core.Bool.{false}
 use Prim.Native.Nat.{ℕ, _-_, _≤_, _<_}
 use native.Mathlib.Omega.{arith}
 use lib.ListN.{length}
@@ -11,7 +11,7 @@ use borrow.Author.Needs.{needs}
 use borrow.Author.Tests.{lt-ltb, le-ltb}
 use Rattle.messages.specs.Settings.{settingsOf}
 use Rattle.ring.specs.Page.{pageSize, areaSize}
-use Rattle.ring.specs.Reading.{incomingOf, receivedFrom}
+use Rattle.ring.specs.Reading.{incomingOf}
 use Rattle.ring.specs.Writing.{outgoingOf}
 use Rattle.backend.specs.States.{Good, interfaceOf}
 use Rattle.backend.specs.Events.{left, unread, unreadAcks, owes, withIncoming, readIn, carriedOver, proceeded, eventOf}
@@ -104,8 +104,8 @@ returns-4 c =
     (responds (lent s) (page s) _ r _ _ (d .respond .ensures) ∙ proceeds-owing (lent s) (page s) _ _ (lt-ltb _ _ (owing .if4 .taken)))
 
 -- once the present message has been read
-module _ (d : tie.After-receive) where
-  abbrev idling : tie.After-receive-arg
+module _ (d : tie.After-read-request) where
+  abbrev idling : tie.After-read-request-arg
   idling = d .before .before .before .before .before
 
   abbrev known : tie.After-unread-responses
@@ -122,18 +122,18 @@ module _ (d : tie.After-receive) where
 
   abbrev read : Interface
   read =
-      let l = d .receive .last in
+      let l = d .read-request .last in
       withIncoming (lent from) (incomingOf (l .1 .0) (l .1 .1 .0) (l .1 .1 .1 .0) (l .1 .1 .1 .1 .0))
 
   has-read : read ≡ readIn (lent from) (page from) (there known few-acks)
-  has-read = reads (lent from) (page from) _ _ (d .receive .ensures)
+  has-read = reads (lent from) (page from) _ _ (d .read-request .ensures)
 
 -- once the message, which is whole, has been carried out
 module _ (d : tie.After-carry-over) where
   abbrev whole-test : tie.Then5
   whole-test = d .before .before .before .before .before .before .before .before .before
 
-  abbrev done : tie.After-receive
+  abbrev done : tie.After-read-request
   done = whole-test .before .before .before .before
 
   abbrev carried : Interface
@@ -142,7 +142,7 @@ module _ (d : tie.After-carry-over) where
       let i = read done .incoming in
       record {
         settings = settingsOf (from done .args .queues) (l .1 .0) (l .1 .1 .0) (l .1 .1 .1 .0) (l .1 .1 .1 .1 .0);
-        incoming = incomingOf (i .message .header) (i .message .payload) 0 (i .«req_cons»);
+        incoming = incomingOf (i .message .header) (i .message .payload) 0 (i .cons);
         outgoing = outgoingOf (l .1 .1 .1 .1 .1 .1 .1 .0) (l .1 .1 .1 .1 .1 .1 .1 .1 .0) 0 (from done .args .rsp-prod .now);
       }
 
@@ -156,7 +156,7 @@ respond-requires-2 c κs =
     let n = there (known (done d)) (few-acks (done d)) in
     let same : carried d ≡ carriedOver (readIn (lent s) (page s) n) = has-carried d ∙ ap carriedOver (has-read (done d)) in
     let good : Good (carried d) = subst Good (sym same) (good-carried (lent s) (page s) n (s .pre)) in
-    (size (counted (known (done d))), good .outgoing)
+    ((size (counted (known (done d))), omega arith), good .outgoing)
 
 returns-5 : tie.Need-returns-5
 returns-5 c =

@@ -1,6 +1,6 @@
 -- `backend::events::respond` meets its contract: the ack octets that fit are sent, and the counts are written behind them.
 -- Assumes nothing.
-use mathlib.Core.Path.{_≡_, refl}
+use mathlib.Core.Path.{refl}
 use borrow.Author.Needs.{needs}
 use borrow.Author.Tests.{lt-ltb, le-ltb}
 use Rattle.backend.proofs.events.respond.Statement.{statement}

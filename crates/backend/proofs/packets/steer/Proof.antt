@@ -1,6 +1,5 @@
 -- `backend::packets::steer` meets its contract: a good state has a listed number of entries.
 -- Assumes nothing.
-use borrow.Author.Needs.{needs}
 use Rattle.backend.proofs.packets.steer.Statement.{statement}
 use Rattle.backend.proofs.packets.steer.Tie as tie
 

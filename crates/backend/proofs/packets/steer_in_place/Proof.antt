@@ -1,7 +1,7 @@
 -- `backend::packets::steer_in_place` meets its contract: the table is the listed number of entries, and can be asked.
 -- Assumes nothing.
 use mathlib.Core.Path.{_≡_, ap, _∙_}
-use Prim.Native.Nat.{ℕ, _≤_}
+use Prim.Native.Nat.{ℕ}
 use native.Mathlib.Nat.{sub-zero}
 use native.Mathlib.Omega.{arith}
 use lib.ListN.{length, take}
@@ -9,7 +9,7 @@ use borrow.Author.Needs.{needs}
 use Rattle.toeplitz.specs.Hash.{keyLength}
 use Rattle.messages.specs.Settings.{maxEntries}
 use Rattle.messages.proofs.Powers.{listed-parts}
-use Rattle.steering.specs.Steering.{Usable, steered}
+use Rattle.steering.specs.Steering.{steered}
 use Rattle.backend.proofs.Queues.{usable}
 use Rattle.backend.proofs.packets.steer_in_place.Statement.{statement}
 use Rattle.backend.proofs.packets.steer_in_place.Tie as tie

@@ -10,7 +10,7 @@ use Rattle.ring.proofs.receiving.read_header.Tie as tie
 returns : tie.Need-returns
 returns c =
     let a = c .before .before .before .args in
-    (omega arith, sym (none-set (a .page .now) (a .count) (a .header .now) (a .taken) 0 refl))
+    (omega arith, sym (none-set (a .area) (a .page .now) (a .count) (a .header .now) (a .taken) 0 refl))
 
 returns-2 : tie.Need-returns-2
 returns-2 c =
@@ -18,7 +18,7 @@ returns-2 c =
     let a = d .before .before .before .before .args in
     let k = d .least .result in
     let read = c .before .before .read-area .ensures in
-    (d .least .ensures, part-read (a .page .now) (a .header .now) _ (a .count) (a .taken) k k read (omega arith) (omega arith))
+    (d .least .ensures, part-read (a .area) (a .page .now) (a .header .now) _ (a .count) (a .taken) k k read (omega arith) (omega arith))
 
 pub read-header-spec : {M : Type 1} → statement M
 read-header-spec =

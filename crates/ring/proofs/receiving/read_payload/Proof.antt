@@ -1,12 +1,12 @@
 -- `ring::receiving::read_payload` meets its contract: octets behind those that the part lent holds would change nothing.
 -- Assumes nothing.
-use mathlib.Core.Path.{_≡_, refl, sym, ap, _∙_}
-use Prim.Native.Nat.{ℕ, _+_, _-_, _^_, _≤_, _<_, min}
+use mathlib.Core.Path.{_≡_, refl, sym}
+use Prim.Native.Nat.{_+_, _-_, _^_, _≤_, _<_}
 use native.Mathlib.Omega.{arith}
 use borrow.Author.Needs.{needs}
 use borrow.Author.Tests.{lt-ltb, le-ltb}
 use Rattle.messages.specs.Wire.{headerSize}
-use Rattle.ring.specs.Page.{requestsAt, octetsIn}
+use Rattle.ring.specs.Page.{octetsIn}
 use Rattle.ring.specs.Inner.{payloadMoved}
 use Rattle.ring.proofs.Steps.{none-set, sets-out, part-read}
 use Rattle.ring.proofs.receiving.read_payload.Statement.{statement}
@@ -17,7 +17,7 @@ returns c =
     let a = c .before .before .before .before .args in
     let short : a .taken < headerSize = omega arith in (
       rw (lt-ltb (a .taken) headerSize short) refl,
-      (sym (none-set (a .page .now) (a .count) (a .payload .now) (a .taken - headerSize) 0 refl), omega arith),
+      (sym (none-set (a .area) (a .page .now) (a .count) (a .payload .now) (a .taken - headerSize) 0 refl), omega arith),
     )
 
 -- once the least of what is missing and what is there is known
@@ -43,16 +43,16 @@ returns-2 c =
     let d = e .before .before in
     let a = start d .args in
     let i = a .taken - headerSize in
-    let kept = e .least2 .ensures ∙ ap (λ (n : ℕ). min (n - i) (d .least .result)) (sym (start d .pre .0 .2)) in
+    let kept = e .least2 .ensures in
     let read = c .before .before .read-area .ensures in
-    let placed = part-read (a .page .now) (a .payload .now) _ (a .count) i (e .least2 .result) (d .least .result) read (omega arith) kept in
+    let placed = part-read (a .area) (a .page .now) (a .payload .now) _ (a .count) i (e .least2 .result) (d .least .result) read (omega arith) kept in
     (moved d, (placed, within d))
 
 returns-3 : tie.Need-returns-3
 returns-3 c =
     let d = c .before in
     let a = start d .args in
-    let read = octetsIn requestsAt (a .page .now) (a .count) (d .least .result) in
+    let read = octetsIn (a .area) (a .page .now) (a .count) (d .least .result) in
     (moved d, (sym (sets-out (a .payload .now) read (a .taken - headerSize) (omega arith)), within d))
 
 pub read-payload-spec : {M : Type 1} → statement M

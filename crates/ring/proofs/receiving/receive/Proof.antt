@@ -7,7 +7,7 @@ use native.Mathlib.Omega.{arith}
 use lib.ListN.{length}
 use lib.Seq.{length-sets}
 use borrow.Author.Needs.{needs}
-use Rattle.messages.specs.Wire.{headerSize, maxPayload}
+use Rattle.messages.specs.Wire.{headerSize}
 use Rattle.ring.specs.Reading.{incomingOf}
 use Rattle.ring.specs.declared.Incoming.{Incoming}
 use Rattle.ring.specs.declared.Message.{Message}
@@ -18,7 +18,7 @@ use Rattle.ring.proofs.receiving.receive.Tie as tie
 -- what is known of the message at the start
 module _ (s : tie.Start) where
   abbrev side : Incoming
-  side = incomingOf (s .args .header .now) (s .args .payload .now) (s .args .taken .now) (s .args .req-cons .now)
+  side = incomingOf (s .args .header .now) (s .args .payload .now) (s .args .taken .now) (s .args .cons .now)
 
   abbrev present : Message
   present = side .message
@@ -26,7 +26,7 @@ module _ (s : tie.Start) where
 -- once the header is lent: it has its length
 module _ (d : tie.After-read-header-arg) where
   abbrev began : tie.Start
-  began = d .before .before .before .before
+  began = d .before .before .before .before .before
 
   header-long : length (present began .header) ≡ headerSize
   header-long = search needs
@@ -37,7 +37,7 @@ module _ (d : tie.After-read-header) where
   start = began (d .before)
 
   abbrev header : List ℕ
-  header = d .read-header .last .1 .0
+  header = d .read-header .last .1 .1 .0
 
   header-kept : length header ≡ headerSize
   header-kept = rw (d .read-header .ensures .1, length-sets) (header-long (d .before))
@@ -57,30 +57,29 @@ read-payload-requires c κs =
     let d = c .before .before .before .before in
     let s = start d in
     let read = d .read-header .ensures in
-    let payload-long : length (present s .payload) ≡ maxPayload = search needs in
-    let within = taken-most (s .args .page .now) (side s .«req_cons») (s .args .unread) (present s) (header d) _ (read .0) (read .1) (s .pre .2) in
-    ((s .pre .0, header-kept d, payload-long), (omega arith, within))
+    let within = taken-most (s .args .area) (s .args .page .now) (side s .cons) (s .args .unread) (present s) (header d) _ (read .0) (read .1) (s .pre .2) in
+    ((s .pre .0, header-kept d), (omega arith, within))
 
 add-moved : tie.Need-add-moved
-add-moved c = let m = moved c in omega arith
+add-moved c = let m = moved (c .before .before) in omega arith
 
 add-taken : tie.Need-add-taken
-add-taken c = let within = c .read-payload .ensures .1 .1 in omega arith
+add-taken c = let within = c .before .before .read-payload .ensures .1 .1 in omega arith
 
 cast-wrapping-add-u32-2 : tie.Need-cast-wrapping-add-u32-2
-cast-wrapping-add-u32-2 c = let m = moved c in omega arith
+cast-wrapping-add-u32-2 c = let m = moved (c .before .before) in omega arith
 
 returns : tie.Need-returns
 returns c =
-    let d = c .before in
+    let d = c .before .before .before in
     let h = headed d in
     let s = start h in
     let read = h .read-header .ensures in
     let more = d .read-payload .ensures in
     let count = d .before .wrapping-add-u32 .ensures in
-    let payload = d .read-payload .last .1 .1 .0 in
+    let payload = d .read-payload .last .1 .1 .1 .0 in
     rw (c .wrapping-add-u322 .ensures)
-    (received-blocks (s .args .page .now) (side s) (s .args .unread) (header h) payload _ _ (s .pre .2)
+    (received-blocks (s .args .area) (s .args .page .now) (side s) (s .args .unread) (header h) payload _ _ (s .pre .2)
     (read .0) (read .1) (more .0) (rw count at (more .1 .0)))
 
 pub receive-spec : {M : Type 1} → statement M
@@ -97,4 +96,5 @@ receive-spec =
     add-taken
     cast-wrapping-add-u32-2
     (λ c κs. search needs)
+    (λ c. search needs)
     returns)

@@ -1,7 +1,6 @@
 -- `zwerfen::host::steer_on_parts` meets its contract: each case of the answer is told by its number and values.
 -- Assumes nothing.
-use mathlib.Core.Path.{_≡_, refl, sym, ap, subst, _∙_}
-use Prim.Native.Nat.{ℕ}
+use mathlib.Core.Path.{_≡_, refl, sym, ap, _∙_}
 use lib.ListN.{take}
 use borrow.Author.Needs.{needs}
 use Rattle.steering.specs.Steering.{Choice, steered, choiceOf, queueIn}

@@ -1,0 +1,200 @@
+-- The host's turn: it reads on, or it carries the request out and writes the whole ack.
+-- Assumes nothing.
+use mathlib.Core.Path.{_≡_, refl, sym, ap, ap₂, subst, subst₂, _∙_}
+use mathlib.Core.List.{List, [], _++_}
+use mathlib.Core.Bool.{Bool, true, false}
+use Prim.Native.Nat.{ℕ, _+_, _-_, _^_, _≤_, _<_}
+use native.Mathlib.Omega.{arith}
+use lib.ListN.{length, take, drop}
+use lib.Seq.{length-take-le, take-all, take-add}
+use lib.Dec.{ltb}
+use borrow.Author.Tests.{eq-eqb, le-leb, lt-leb, le-ltb, ltb-true, ltb-false}
+use Rattle.messages.specs.Wire.{headerSize, typeIn, sizeIn}
+use Rattle.messages.specs.Requests.{maxAck, ackIn, carriedMessage}
+use Rattle.messages.specs.declared.Carried.{Carried}
+use Rattle.messages.proofs.Theorems.{ack-fits}
+use Rattle.ring.specs.Page.{pageSize, areaSize, reqConsAt, rspProdAt, requestsAt, responsesAt, countIn, less, advanced, octetsIn, put}
+use Rattle.ring.specs.Reading.{messageLength, whole, received, receivedFrom}
+use Rattle.ring.specs.Writing.{fitting, sentOctets}
+use Rattle.ring.specs.Streams.{beginsWhole, presentPart, Holding}
+use Rattle.ring.specs.declared.Outgoing.{Outgoing}
+use Rattle.ring.proofs.Places.{put-length}
+use Rattle.ring.proofs.Untouched.{counted-length, counted-octets, counted-cons, counted-prod, put-stands}
+use Rattle.ring.proofs.Sides.{less-advanced}
+use Rattle.ring.proofs.Holdings.{size-front, part-whole, part-all, holding-whole, holding-received}
+use Rattle.backend.specs.Events.{After, waiting, unread, unreadAcks, answeredWith, owes, responded, readIn, carriedIn, carriedOver, afterRead, proceeded, eventOf}
+use Rattle.backend.specs.Rules.{Accepted, room, afterReading, BecomesWhole}
+use Rattle.backend.specs.declared.Interface.{Interface}
+use Rattle.backend.proofs.Stages.{carried-held}
+use Rattle.backend.proofs.Theorems.{carried-out}
+use Rattle.ends.specs.Ends.{Ends, hostTurn}
+use Rattle.ends.proofs.Points.{Asking, Ready, Sent, Answered}
+
+module _ (m : List ℕ) (long : length m ≡ messageLength m) where
+  -- the first octets of a message, but not all, are no whole message
+  front-waits : (n : ℕ) → n < length m → beginsWhole (take n m) ≡ false
+  front-waits n some = by (ltb n headerSize) refl
+    where
+      size : length (take n m) ≡ n
+      size = length-take-le n m (omega arith)
+
+      by : (b : Bool) → ltb n headerSize ≡ b → beginsWhole (take n m) ≡ false
+      by true t = lt-leb (messageLength (take n m)) (length (take n m)) (omega (arith, size, ltb-true n headerSize t))
+      by false t =
+          let same : sizeIn (take n m) ≡ sizeIn m = size-front n m (ltb-false n headerSize t) in
+          lt-leb (messageLength (take n m)) (length (take n m)) (omega (arith, size))
+
+  -- all of them are
+  all-whole : beginsWhole m ≡ true
+  all-whole = le-leb (messageLength m) (length m) (omega arith)
+
+  -- so the first octets are all read
+  front-present : (n : ℕ) → n ≤ length m → presentPart (take n m) ≡ take n m
+  front-present n within = by (ltb n (length m)) refl
+    where
+      by : (b : Bool) → ltb n (length m) ≡ b → presentPart (take n m) ≡ take n m
+      by true t = part-all (take n m) (front-waits n (ltb-true n (length m) t))
+      by false t =
+          let same : take n m ≡ m = take-all n m (ltb-false n (length m) t) in
+          rw same (part-whole m all-whole ∙ take-all (messageLength m) m (omega arith))
+
+-- an event at which the message does not become whole
+event-waits : (s : Interface) (page : List ℕ) → Accepted s page → owes s ≡ false → whole (afterReading s page .incoming .message) ≡ false
+    → eventOf s page ≡ answeredWith waiting (afterReading s page) page
+unfolding eventOf proceeded afterRead
+event-waits s page ok idle waits =
+    rw (eq-eqb _ _ (ok .size), le-leb _ _ (ok .requests), le-leb _ _ (ok .responses), idle, waits) refl
+
+-- a message carried out, and its whole ack written
+record Replied (t : Interface) (c : Carried) (a : After) : Type 0 where
+  settings : a .state .settings ≡ c .settings
+  no-ack : owes (a .state) ≡ false
+  nothing-read : a .state .incoming .message .taken ≡ 0
+  cons : a .state .incoming .cons ≡ t .incoming .cons
+  prod : a .state .outgoing .prod ≡ advanced (t .outgoing .prod) (length (ackIn c))
+  size : length (a .page) ≡ pageSize
+  req-cons : countIn (a .page) reqConsAt ≡ t .incoming .cons
+  rsp-prod : countIn (a .page) rspProdAt ≡ a .state .outgoing .prod
+  octets : octetsIn responsesAt (a .page) (t .outgoing .prod) (length (ackIn c)) ≡ ackIn c
+
+replies : (t : Interface) (page : List ℕ) (space : ℕ) → maxAck ≤ space → length page ≡ pageSize → t .incoming .cons < 2 ^ 32
+    → Replied t (carriedIn t) (responded (carriedOver t) page space)
+unfolding responded carriedOver
+replies t page space enough size small =
+    let m = t .incoming .message in
+    let c = carriedIn t in
+    let ack = ackIn c in
+    let p = t .outgoing .prod in
+    let fits = ack-fits (t .settings) (typeIn (m .header)) (sizeIn (m .header)) (m .payload) in
+    let long : length ack ≡ c .ack .length = length-take-le (c .ack .length) (c .ack .octets) (omega arith) in
+    let o : Outgoing = record { octets = c .ack .octets; length = c .ack .length; written = 0; prod = p } in
+    let k = fitting o space in
+    let count : k ≡ c .ack .length = omega arith in
+    let next = advanced p k in
+    let xs = sentOctets o k in
+    let all : xs ≡ ack = ap (λ (j : ℕ). take j (c .ack .octets)) count in
+    let into = put responsesAt page p xs in
+    let same : length into ≡ pageSize = put-length responsesAt xs page p ∙ size in
+    record {
+      settings = refl;
+      no-ack = le-ltb (0 + k) (c .ack .length) (omega arith);
+      nothing-read = refl;
+      cons = refl;
+      prod = ap (advanced p) (count ∙ sym long);
+      size = counted-length into (t .incoming .cons) next ∙ same;
+      req-cons = counted-cons into (t .incoming .cons) next (omega arith) small;
+      rsp-prod = counted-prod into (t .incoming .cons) next (omega arith) (omega arith);
+      octets =
+          counted-octets responsesAt into (t .incoming .cons) next (length ack) p (omega arith)
+          ∙ ap (λ (l : List ℕ). octetsIn responsesAt into p (length l)) (sym all)
+          ∙ put-stands responsesAt xs page p (rw all (omega arith)) (omega arith)
+          ∙ all;
+    }
+
+module _ (m : List ℕ) (r n : ℕ) (e : Ends) (sent : Sent m r n e) (long : length m ≡ messageLength m) where
+  module _ (first : r < length m) (more : r ≤ n) (within : n ≤ length m) (few : n - r ≤ areaSize) where
+    abbrev h : Interface
+    h = e .host
+
+    abbrev t : Interface
+    t = afterReading h (e .page)
+
+    -- what it finds on the page
+    finds : unread h (e .page) ≡ n - r
+    finds =
+        ap (λ (c : ℕ). less c (h .incoming .cons)) (sent .req-prod ∙ sent .moved)
+        ∙ less-advanced (h .incoming .cons) (n - r) (sent .count) (omega arith)
+
+    room-found : unreadAcks h (e .page) ≡ 0
+    room-found = omega (arith, sent .responses, sent .rsp-cons, sent .guest .cons)
+
+    accepted : Accepted h (e .page)
+    accepted = record { size = sent .size; requests = rw finds few; responses = rw room-found (omega arith) }
+
+    -- what it then holds of the request, and its count
+    holds : Holding (t .incoming .message) (take n m)
+    unfolding readIn receivedFrom
+    holds =
+        let fresh = octetsIn requestsAt (e .page) (h .incoming .cons) (unread h (e .page)) in
+        let read : fresh ≡ take (n - r) (drop r m) = ap (octetsIn requestsAt (e .page) (h .incoming .cons)) finds ∙ sent .octets in
+        let sum : r + (n - r) ≡ n = omega arith in
+        let all : take r m ++ fresh ≡ take n m =
+        ap (λ (l : List ℕ). take r m ++ l) read ∙ sym (take-add r (n - r) m) ∙ ap (λ (k : ℕ). take k m) sum in
+        subst (Holding (received fresh (h .incoming .message))) (ap presentPart all ∙ front-present m long n within)
+        (holding-received fresh (h .incoming .message) (take r m) (sent .held) (front-waits m long r first))
+
+    counts : t .incoming .cons ≡ e .guest .«req_prod»
+    unfolding readIn receivedFrom
+    counts =
+        let now : t .incoming .message .taken ≡ n = holds .count ∙ length-take-le n m within in
+        let before : h .incoming .message .taken ≡ r = sent .held .count ∙ length-take-le r m (omega arith) in
+        ap (advanced (h .incoming .cons)) (ap₂ _-_ now before) ∙ sym (sent .moved)
+
+    -- octets of the request are still to come
+    pub reads-on : n < length m → Ready m n (hostTurn e) × (hostTurn e .host .settings ≡ h .settings)
+    unfolding readIn
+    reads-on part =
+        let c = t .incoming .cons in
+        let p = t .outgoing .prod in
+        let waits = holding-whole (t .incoming .message) (take n m) holds ∙ front-waits m long n part in
+        subst (λ (a : After). Ready m n (record { guest = e .guest; host = a .state; page = a .page }) × (a .state .settings ≡ h .settings))
+        (sym (event-waits h (e .page) accepted (sent .no-ack) waits)) (
+          record {
+            guest = sent .guest;
+            size = counted-length (e .page) c p ∙ sent .size;
+            no-ack = sent .no-ack;
+            held = holds;
+            requests = counts;
+            responses = sent .responses;
+            req-cons = counted-cons (e .page) c p (rw (sent .size) (omega arith)) (rw counts (sent .guest .prod)) ∙ counts;
+            rsp-prod = counted-prod (e .page) c p (rw (sent .size) (omega arith)) (rw (sent .responses) (sent .guest .cons)) ∙ sent .responses;
+          },
+          refl,
+        )
+
+    -- all of it is read: it is carried out
+    pub carries-out : n ≡ length m → Answered m (ackIn (carriedMessage (h .settings) m [])) (hostTurn e)
+        × (hostTurn e .host .settings ≡ carriedMessage (h .settings) m [] .settings)
+    unfolding readIn
+    carries-out all =
+        let held : Holding (t .incoming .message) m = subst (Holding (t .incoming .message)) (take-all n m (omega arith)) holds in
+        let becomes : BecomesWhole h (e .page) =
+        record { accepted = accepted; idle = sent .no-ack; all = holding-whole (t .incoming .message) m held ∙ all-whole m long } in
+        let c = carriedMessage (h .settings) m [] in
+        let done : carriedIn t ≡ c = carried-held (h .settings) (t .incoming .message) m held long in
+        let x = replies t (e .page) (room h (e .page)) (rw room-found (omega arith)) (sent .size) (rw counts (sent .guest .prod)) in
+        let left : Replied t c (eventOf h (e .page)) = subst₂ (Replied t) done (sym (carried-out h (e .page) becomes)) x in (
+          record {
+            guest = subst (λ (k : ℕ). Asking m k (e .guest)) all (sent .guest);
+            size = left .size;
+            no-ack = left .no-ack;
+            nothing-read = left .nothing-read;
+            requests = left .cons ∙ counts;
+            responses = left .prod ∙ ap (λ (p : ℕ). advanced p (length (ackIn c))) (sent .responses);
+            req-cons = left .req-cons ∙ counts;
+            rsp-prod = left .rsp-prod;
+            octets =
+                ap (λ (p : ℕ). octetsIn responsesAt (eventOf h (e .page) .page) p (length (ackIn c))) (sym (sent .responses)) ∙ left .octets;
+          },
+          left .settings,
+        )

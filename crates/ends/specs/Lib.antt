@@ -1,0 +1,2 @@
+-- What the theorems on the two ends speak of.
+pub mod Ends

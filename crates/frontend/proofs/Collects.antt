@@ -1,0 +1,124 @@
+-- What the functions that collect an ack did, as the definitions say it.
+-- Assumes nothing.
+use mathlib.Core.Path.{_≡_, refl, ap}
+use mathlib.Core.List.{List, [], _++_, append-nil}
+use mathlib.Core.Bool.{true, false}
+use Prim.Native.Nat.{ℕ, _+_, _≤_, _<_}
+use native.Mathlib.Omega.{arith}
+use lib.ListN.{length, take, drop, drop-of-length-le}
+use lib.Seq.{take-at, drop-at, take-append-add}
+use borrow.Rule.Slice.PartMut.{putMid}
+use borrow.Author.Tests.{eq-eqb, ne-eqb, le-leb, lt-leb}
+use Rattle.octets.specs.Outcome.{value, refused}
+use Rattle.messages.specs.Wire.{headerSize, fieldSize, typeIn, sizeIn}
+use Rattle.ring.specs.Page.{responsesAt, countedByGuest}
+use Rattle.ring.specs.Reading.{whole, receivedFrom}
+use Rattle.ring.specs.declared.Message.{Message}
+use Rattle.ring.specs.declared.Incoming.{Incoming}
+use Rattle.frontend.specs.Refusals.{notAnAck}
+use Rattle.frontend.specs.Reader.{Reading, readAck}
+use Rattle.frontend.specs.Guest.{maxAckPayload, idle, failed, incoming, withIncoming, withPhase, owes}
+use Rattle.frontend.specs.Guest.{Good, acked, toldOf}
+use Rattle.frontend.specs.Calls.{After, Found, found, refusedWith, wroteOn}
+use Rattle.frontend.specs.Calls.{sizeWrong, messageOctets, Seen, part, judged, seen, doneWith, concluded, readOn, eventBy, eventOf, left}
+use Rattle.frontend.specs.declared.Guest.{Guest}
+use Rattle.frontend.specs.declared.Refusal.the-variants.{AckRefused}
+use Rattle.frontend.specs.declared.GuestAnswer.{GuestAnswer}
+use Rattle.frontend.specs.declared.GuestAnswer.the-variants.{Pending, Refused}
+use Rattle.frontend.proofs.Goodness.{good-event}
+
+-- an ack put together: a payload put behind a header, over as many octets, and n octets of it behind the header
+module _ (header payload rest : List ℕ) (head : length header ≡ headerSize) (room : length rest ≡ maxAckPayload) where
+  pub put-together : putMid headerSize maxAckPayload (header ++ rest) payload ≡ header ++ payload
+  put-together =
+      let none : drop maxAckPayload rest ≡ [] = drop-of-length-le rest {i = maxAckPayload} (omega arith) in
+      rw (take-at header rest headerSize head, drop-at header rest headerSize head, none, append-nil payload) refl
+
+  pub put-part : (m n : ℕ) → m ≡ headerSize + n → take m (putMid headerSize maxAckPayload (header ++ rest) payload) ≡ header ++ take n payload
+  put-part m n e =
+      let size : m ≡ length header + n = omega arith in
+      rw (put-together, size) (take-append-add header payload n)
+
+-- an ack whose header is not there
+pub sees-no-header : (t : ℕ) (m : Message) → m .taken < headerSize → part ≡ seen t m
+unfolding seen
+sees-no-header t m few =
+    let short : m .taken < headerSize + sizeIn (m .header) = omega arith in
+    rw (lt-leb _ _ few, lt-leb _ _ short) refl
+
+-- an ack whose header is there: its size is that of no ack, or that of a status alone, or that of one with flags
+module _ (m : Message) (there : headerSize ≤ m .taken) where
+  pub sees-wrong : (t : ℕ) → (sizeIn (m .header) ≡ fieldSize → ⊥) → (sizeIn (m .header) ≡ fieldSize + fieldSize → ⊥)
+      → judged (refused notAnAck) ≡ seen t m
+  unfolding seen
+  sees-wrong t short long = rw (le-leb _ _ there, ne-eqb _ _ short, ne-eqb _ _ long) refl
+
+  pub size-short : sizeIn (m .header) ≡ fieldSize → sizeWrong m ≡ false
+  size-short e = rw (le-leb _ _ there, eq-eqb _ _ e) refl
+
+  pub size-long : sizeIn (m .header) ≡ fieldSize + fieldSize → sizeWrong m ≡ false
+  size-long e = rw (le-leb _ _ there, e) refl
+
+-- an ack with a good size: it is not whole, or the reader judges it
+module _ (t : ℕ) (m : Message) (right : sizeWrong m ≡ false) where
+  pub sees-part : whole m ≡ false → part ≡ seen t m
+  unfolding seen
+  sees-part w = rw (right, w) refl
+
+  pub sees-whole : whole m ≡ true → judged (readAck t (messageOctets m)) ≡ seen t m
+  unfolding seen
+  sees-whole w = rw (right, w) refl
+
+-- octets of the ack read by a guest with the reading side j, whose request has type t, so that the reading side is i and s is seen
+pub reads-on : (g : Guest) (page : List ℕ) (n t : ℕ) (i j : Incoming) (s : Seen) → typeIn (g .request) ≡ t → incoming g ≡ j
+    → i ≡ receivedFrom responsesAt page j n → s ≡ seen t (i .message) → concluded s g i page ≡ readOn g page n
+unfolding readOn
+reads-on g page n t i j s type side read sight = rw (sight, read, ← side, ← type) refl
+
+-- what is left once octets have been read
+module _ (g : Guest) (i : Incoming) (page : List ℕ) where
+  -- by the counts that are written: the ack is not whole, or it is accepted
+  module _ (octets : List ℕ) (prod : ℕ) (own : g .«req_prod» ≡ prod) (counts : octets ≡ countedByGuest page (i .cons) prod) where
+    pub concludes-part : (phase : ℕ) → g .phase ≡ phase → left Pending (withPhase (withIncoming g i) phase) octets ≡ concluded part g i page
+    unfolding concluded
+    concludes-part phase e = rw (counts, ← own, ← e) refl
+
+    pub concludes-accepted : (r : Reading) (a : GuestAnswer) → toldOf a ≡ acked r
+        → left a (doneWith g (i .message) idle (i .cons)) octets ≡ concluded (judged (value r)) g i page
+    unfolding concluded
+    concludes-accepted r a told = rw (counts, ← own, told) refl
+
+  -- the ack is refused, and the guest had the reading side j
+  pub concludes-refused : (j : Incoming) → incoming g ≡ j
+      → left (Refused AckRefused) (doneWith g (i .message) failed (j .cons)) page ≡ concluded (judged (refused notAnAck)) g i page
+  unfolding concluded
+  concludes-refused j side = rw (← side) refl
+
+-- an event that is refused
+pub event-refused : (g : Guest) (page : List ℕ) (k : ℕ) → refused k ≡ found g page → refusedWith k g page ≡ eventOf g page
+unfolding eventBy
+event-refused g page k e = rw (← e) refl
+
+-- an event that finds f
+module _ (g : Guest) (page : List ℕ) (f : Found) (finds : value f ≡ found g page) where
+  -- without a request
+  pub event-idle : (octets : List ℕ) → g .phase ≡ idle → octets ≡ countedByGuest page (g .«rsp_cons») (g .«req_prod»)
+      → left Pending g octets ≡ eventOf g page
+  unfolding eventBy
+  event-idle octets rests q = rw (← finds, eq-eqb _ _ rests, q) refl
+
+  -- with a request of which octets are owed, and with none owed
+  module _ (busy : g .phase ≡ idle → ⊥) where
+    pub event-owing : owes g ≡ true → wroteOn g page (f .room) ≡ eventOf g page
+    unfolding eventBy
+    event-owing owing = rw (← finds, ne-eqb _ _ busy, owing) refl
+
+    pub event-reading : owes g ≡ false → readOn g page (f .unread) ≡ eventOf g page
+    unfolding eventBy
+    event-reading done = rw (← finds, ne-eqb _ _ busy, done) refl
+
+-- the state that an event leaves is good
+pub event-good : (g h : Guest) (page octets : List ℕ) (r : GuestAnswer) → Good g → left r h octets ≡ eventOf g page → Good h
+event-good g h page octets r good e =
+    let same : h ≡ eventOf g page .state = ap (λ (a : After). a .state) e in
+    rw same (good-event g page good)

@@ -1,0 +1,45 @@
+// The line that the program prints for a call of the guest.
+use cases::print_digest;
+use cases::print_number;
+use cases::print_word;
+use frontend::GuestAnswer;
+use frontend::GuestHandled;
+use frontend::NOT_AN_ACK;
+use frontend::REQUEST_OUTSTANDING;
+use frontend::Refusal;
+use frontend::VALUE_NOT_LISTED;
+use toeplitz::KEY_LENGTH_WRONG;
+
+// The answer, the guest's phase and own counts, and all octets of the buffer.
+pub(crate) fn print_handled(handled: GuestHandled, page: &[u8]) {
+    let answer = handled.answer;
+    let guest = handled.guest;
+    print_answer(answer);
+    print_number(b" phase ", guest.phase as u64);
+    print_number(b" req_prod ", guest.req_prod as u64);
+    print_number(b" rsp_cons ", guest.rsp_cons as u64);
+    print_digest(b" page ", page);
+    print_word(b"\n");
+}
+
+fn print_answer(answer: GuestAnswer) {
+    match answer {
+        GuestAnswer::Pending => print_number(b"guest ", 0),
+        GuestAnswer::RequestOwed => print_number(b"guest ", 2),
+        GuestAnswer::AckedStatus(status) => print_number(b"guest 1 status ", status as u64),
+        GuestAnswer::AckedFlags(flags) => print_number(b"guest 1 status 0 flags ", flags as u64),
+        GuestAnswer::Refused(refusal) => print_number(b"guest ", number_of(refusal)),
+    }
+}
+
+fn number_of(refusal: Refusal) -> u64 {
+    match refusal {
+        Refusal::PageLength => 3,
+        Refusal::RequestCount => 4,
+        Refusal::ResponseCount => 5,
+        Refusal::AckRefused => NOT_AN_ACK as u64,
+        Refusal::Outstanding => REQUEST_OUTSTANDING as u64,
+        Refusal::KeyRefused => KEY_LENGTH_WRONG as u64,
+        Refusal::ValueRefused => VALUE_NOT_LISTED as u64,
+    }
+}
