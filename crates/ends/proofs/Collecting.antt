@@ -21,11 +21,11 @@ use Rattle.ring.proofs.Turns.{parts}
 use Rattle.ring.proofs.Sides.{less-advanced}
 use Rattle.ring.proofs.Untouched.{guest-counted-length, guest-counted-others}
 use Rattle.backend.specs.States.{Good as GoodHost}
-use Rattle.frontend.specs.Reader.{Reading, answerTo, readAck}
+use Rattle.guest_messages.specs.Reader.{Reading, answerTo, readAck}
 use Rattle.frontend.specs.Guest.{idle, acked, incoming, owes, Good as GoodGuest}
 use Rattle.frontend.specs.Calls.{After, unreadRequests, unreadAcks, answeredWith, judged, seen, doneWith, concluded, readOn, eventOf}
 use Rattle.frontend.specs.declared.Guest.{Guest}
-use Rattle.frontend.proofs.Theorems.{reader-accepts-ack}
+use Rattle.guest_messages.proofs.Theorems.{reader-accepts-ack}
 use Rattle.ends.specs.Ends.{Ends, afterGuest, guestEvent, answerOf, Agree}
 use Rattle.ends.proofs.Points.{Answered}
 use Rattle.ends.proofs.Messages.{Ack, received-message, ack-seen, ack-made}

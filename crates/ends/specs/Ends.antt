@@ -15,8 +15,8 @@ use Rattle.backend.specs.States.{interfaceAtSetup, Good as GoodHost}
 use Rattle.backend.specs.Events.{eventOf as hostEventOf, owes as hostOwes}
 use Rattle.backend.specs.Streams.{settingsAfter}
 use Rattle.backend.specs.declared.Interface.{Interface}
-use Rattle.frontend.specs.Writer.{getFlagsMessage, setFlagsMessage, setKeyMessage, setMappingMessage}
-use Rattle.frontend.specs.Reader.{Reading, answerTo}
+use Rattle.guest_messages.specs.Writer.{getFlagsMessage, setFlagsMessage, setKeyMessage, setMappingMessage}
+use Rattle.guest_messages.specs.Reader.{Reading, answerTo}
 use Rattle.frontend.specs.Guest.{idle, guestAtSetup, Told, number, acked, pending, Good as GoodGuest}
 use Rattle.frontend.specs.Calls.{After, startOf, eventOf}
 use Rattle.frontend.specs.declared.Guest.{Guest}

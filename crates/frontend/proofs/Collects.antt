@@ -15,8 +15,8 @@ use Rattle.ring.specs.Page.{responsesAt, countedByGuest}
 use Rattle.ring.specs.Reading.{whole, receivedFrom}
 use Rattle.ring.specs.declared.Message.{Message}
 use Rattle.ring.specs.declared.Incoming.{Incoming}
-use Rattle.frontend.specs.Refusals.{notAnAck}
-use Rattle.frontend.specs.Reader.{Reading, readAck}
+use Rattle.guest_messages.specs.Refusals.{notAnAck}
+use Rattle.guest_messages.specs.Reader.{Reading, readAck}
 use Rattle.frontend.specs.Guest.{maxAckPayload, idle, failed, incoming, withIncoming, withPhase, owes}
 use Rattle.frontend.specs.Guest.{Good, acked, toldOf}
 use Rattle.frontend.specs.Calls.{After, Found, found, refusedWith, wroteOn}

@@ -20,14 +20,14 @@ use Rattle.ring.specs.Page.{responsesAt, octetsIn}
 use Rattle.ring.specs.Reading.{whole, receivedFrom}
 use Rattle.ring.specs.declared.Incoming.{Incoming}
 use Rattle.ring.proofs.Sides.{grown, none-waits, good-received, good-sent}
-use Rattle.frontend.specs.Reader.{Reading}
-use Rattle.frontend.specs.Writer.{fieldsOf, getFlagsMessage, setFlagsMessage, setKeyMessage, setMappingMessage}
+use Rattle.guest_messages.specs.Reader.{Reading}
+use Rattle.guest_messages.specs.Writer.{fieldsOf, getFlagsMessage, setFlagsMessage, setKeyMessage, setMappingMessage}
 use Rattle.frontend.specs.Guest.{idle, failed, maxRequest, maxAckPayload, incoming, withIncoming, owes, guestAtSetup, Good}
 use Rattle.frontend.specs.Calls.{After, Found, found, begun, wroteOn, startedBy, readied, startBy, startOf, doneWith}
 use Rattle.frontend.specs.Calls.{Seen, part, judged, sizeWrong, seen, concluded, readOn, eventBy, eventOf, left}
 use Rattle.frontend.specs.declared.Guest.{Guest}
 use Rattle.frontend.specs.declared.GuestAnswer.{GuestAnswer}
-use Rattle.frontend.proofs.Theorems.{message-lengths}
+use Rattle.guest_messages.proofs.Theorems.{message-lengths}
 
 -- the writer's messages have their place
 pub short-get-flags : (m : List ℕ) → getFlagsMessage ≡ value m → length m ≤ maxRequest

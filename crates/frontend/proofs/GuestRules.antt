@@ -16,8 +16,9 @@ use Rattle.ring.specs.Refusals.{pageWrong, requestsWrong, responsesWrong}
 use Rattle.messages.specs.Wire.{headerSize, fieldSize, typeIn, sizeIn}
 use Rattle.ring.specs.Page.{pageSize, areaSize}
 use Rattle.ring.specs.Reading.{whole}
-use Rattle.frontend.specs.Refusals.{notAnAck, requestOutstanding}
-use Rattle.frontend.specs.Reader.{Reading, status, statusAndFlags, readAck}
+use Rattle.guest_messages.specs.Refusals.{notAnAck}
+use Rattle.frontend.specs.Refusals.{requestOutstanding}
+use Rattle.guest_messages.specs.Reader.{Reading, status, statusAndFlags, readAck}
 use Rattle.frontend.specs.Guest.{idle, outstanding, failed, owes, Told, number, acked, pending, requestOwed, toldOf, incoming, Good}
 use Rattle.frontend.specs.Calls.{After, Found, found, unreadRequests, unreadAcks, refusedWith, answeredWith, begun}
 use Rattle.frontend.specs.Calls.{wroteOn, startedBy, startOf, messageOctets, seen, concluded, readOn, eventOf}

@@ -20,8 +20,9 @@ use Rattle.ring.specs.Refusals.{pageWrong, requestsWrong, responsesWrong}
 use Rattle.ring.specs.Page.{pageSize, areaSize}
 use Rattle.ring.specs.Writing.{outgoingOf}
 use Rattle.ring.specs.declared.Outgoing.{Outgoing}
-use Rattle.frontend.specs.Refusals.{valueNotListed, bufferTooShort, notAnAck, requestOutstanding}
-use Rattle.frontend.specs.Writer.{getFlagsMessage, setFlagsMessage, setKeyMessage, setMappingMessage, After, written, writtenOutcomeOf, after}
+use Rattle.guest_messages.specs.Refusals.{valueNotListed, bufferTooShort, notAnAck}
+use Rattle.frontend.specs.Refusals.{requestOutstanding}
+use Rattle.guest_messages.specs.Writer.{getFlagsMessage, setFlagsMessage, setKeyMessage, setMappingMessage, After, written, writtenOutcomeOf, after}
 use Rattle.frontend.specs.Guest.{maxRequest, idle, outstanding, failed, guestOf, outgoing, withOutgoing, refusalNumber}
 use Rattle.frontend.specs.Calls.{Found, unreadRequests, unreadAcks, found, wroteOn, begun, startedBy, readied, startBy, left, Starts}
 use Rattle.frontend.specs.Inner.{Readies, WritesOn}
@@ -29,11 +30,11 @@ use Rattle.frontend.specs.declared.Guest.{Guest}
 use Rattle.frontend.specs.declared.Refusal.{Refusal}
 use Rattle.frontend.specs.declared.GuestAnswer.{GuestAnswer}
 use Rattle.frontend.specs.declared.GuestAnswer.the-variants.{Refused}
-use Rattle.frontend.specs.declared.Written.{Written}
-use Rattle.frontend.specs.declared.Written.the-variants.{Length, KeyLength, Value, Buffer}
+use Rattle.guest_messages.specs.declared.Written.{Written}
+use Rattle.guest_messages.specs.declared.Written.the-variants.{Length, KeyLength, Value, Buffer}
 use Rattle.frontend.specs.declared.starting.Readiness.{Readiness}
 use Rattle.frontend.specs.declared.starting.Readiness.the-variants.{Room, Stopped}
-use Rattle.frontend.proofs.Buffers.{written-whole}
+use Rattle.guest_messages.proofs.Buffers.{written-whole}
 use Rattle.frontend.proofs.Ways.{found-ways}
 
 -- what a call finds: the page is wrong, or the one count, or the other; or an ack was refused; or the counts are good

@@ -16,8 +16,9 @@ use Rattle.messages.specs.Requests.{requestOf}
 use Rattle.ring.specs.Refusals.{pageWrong, requestsWrong, responsesWrong}
 use Rattle.ring.specs.Page.{pageSize, areaSize}
 use Rattle.ring.specs.Reading.{whole}
-use Rattle.frontend.specs.Refusals.{notAnAck, requestOutstanding}
-use Rattle.frontend.specs.Reader.{Reading, isAckTo, readingOf, readAck}
+use Rattle.guest_messages.specs.Refusals.{notAnAck}
+use Rattle.frontend.specs.Refusals.{requestOutstanding}
+use Rattle.guest_messages.specs.Reader.{Reading, isAckTo, readingOf, readAck}
 use Rattle.frontend.specs.Guest.{idle, failed, withIncoming, owes, number, acked, pending}
 use Rattle.frontend.specs.Calls.{After, Found, unreadRequests, unreadAcks, found, refusedWith, answeredWith, wroteOn, startedBy, readied, startBy}
 use Rattle.frontend.specs.Calls.{startOf, sizeWrong, messageOctets, Seen, part, judged, seen, doneWith, concluded, readOn, eventBy, eventOf}

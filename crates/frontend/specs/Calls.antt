@@ -14,8 +14,9 @@ use Rattle.ring.specs.Reading.{whole, receivedFrom}
 use Rattle.ring.specs.Writing.{fitting, sentOctets, sent}
 use Rattle.ring.specs.declared.Message.{Message}
 use Rattle.ring.specs.declared.Incoming.{Incoming}
-use Rattle.frontend.specs.Refusals.{notAnAck, requestOutstanding}
-use Rattle.frontend.specs.Reader.{Reading, readAck}
+use Rattle.guest_messages.specs.Refusals.{notAnAck}
+use Rattle.frontend.specs.Refusals.{requestOutstanding}
+use Rattle.guest_messages.specs.Reader.{Reading, readAck}
 use Rattle.frontend.specs.Guest.{idle, outstanding, failed, guestOf, outgoing, incoming, withOutgoing, withIncoming, owes}
 use Rattle.frontend.specs.Guest.{Told, number, acked, pending, requestOwed, toldOf}
 use Rattle.frontend.specs.declared.Guest.{Guest}

@@ -13,8 +13,9 @@ use Rattle.ring.specs.Reading.{incomingOf, GoodIncoming}
 use Rattle.ring.specs.Writing.{outgoingOf, owed, GoodOutgoing}
 use Rattle.ring.specs.declared.Incoming.{Incoming}
 use Rattle.ring.specs.declared.Outgoing.{Outgoing}
-use Rattle.frontend.specs.Refusals.{valueNotListed, notAnAck, requestOutstanding}
-use Rattle.frontend.specs.Reader.{Reading, status, statusAndFlags}
+use Rattle.guest_messages.specs.Refusals.{valueNotListed, notAnAck}
+use Rattle.frontend.specs.Refusals.{requestOutstanding}
+use Rattle.guest_messages.specs.Reader.{Reading, status, statusAndFlags}
 use Rattle.frontend.specs.declared.Guest.{Guest}
 use Rattle.frontend.specs.declared.Refusal.{Refusal}
 use Rattle.frontend.specs.declared.Refusal.the-variants.{PageLength, RequestCount, ResponseCount, AckRefused, Outstanding, KeyRefused, ValueRefused}

@@ -11,8 +11,8 @@ use Rattle.ring.specs.Page.{requestsAt, countedByGuest, put}
 use Rattle.ring.specs.Writing.{fitting, sentOctets, sent}
 use Rattle.ring.specs.declared.Incoming.{Incoming}
 use Rattle.ring.specs.declared.Outgoing.{Outgoing}
-use Rattle.frontend.specs.Refusals.{notAnAck}
-use Rattle.frontend.specs.Reader.{status, statusAndFlags}
+use Rattle.guest_messages.specs.Refusals.{notAnAck}
+use Rattle.guest_messages.specs.Reader.{status, statusAndFlags}
 use Rattle.frontend.specs.Guest.{incoming, withIncoming, withPhase, number, pending, requestOwed, refusalNumber, toldOf}
 use Rattle.frontend.specs.Calls.{Found, found, readied, Seen, part, judged, readOn, left}
 use Rattle.frontend.specs.declared.Guest.{Guest}

@@ -1,7 +1,5 @@
--- The definitions that the contracts of `frontend` cite, in the order of document 01.
+-- The definitions that the contracts of `frontend` cite, in the order of the rules on the guest's end.
 pub mod Refusals
-pub mod Reader
-pub mod Writer
 pub mod Guest
 pub mod Calls
 pub mod Rules

@@ -1,18 +1,6 @@
--- The refusals of this crate, by document 01's numbers.
+-- The refusal that only the guest's end has, by its number.
 -- Assumes nothing.
 use Prim.Native.Nat.{ℕ}
-
--- output buffer shorter than the message
-abbrev pub bufferTooShort : ℕ
-bufferTooShort = 10
-
--- flags above 15, or mapping length not a listed one
-abbrev pub valueNotListed : ℕ
-valueNotListed = 11
-
--- not an ack to this request
-abbrev pub notAnAck : ℕ
-notAnAck = 12
 
 -- a request begun while one is outstanding
 abbrev pub requestOutstanding : ℕ

@@ -7,11 +7,10 @@ ghost use Prim.Native.Nat.{_≤_};
 ghost use lib.ListN.{length, take};
 ghost use Rattle.ring.specs.Page.{pageSize, areaSize};
 ghost use Rattle.ring.specs.Reading.{isWhole, incomingOf};
-ghost use Rattle.frontend.specs.Reader.{readAck};
+ghost use Rattle.guest_messages.specs.Reader.{readAck};
 ghost use Rattle.frontend.specs.Guest.{Good, guestOf, maxAckPayload};
 ghost use Rattle.frontend.specs.Calls.{left, judged, seen, eventOf};
 ghost use Rattle.frontend.specs.Inner.{sightOf, Collects};
-use crate::AckAnswer;
 use crate::FAILED;
 use crate::GuestAnswer;
 use crate::IDLE;
@@ -21,7 +20,7 @@ use crate::Refusal;
 use crate::calls::Finding;
 use crate::calls::find;
 use crate::calls::write_on;
-use crate::reader::read_ack;
+use guest_messages::AckAnswer;
 use messages::FIELD;
 use messages::HEADER;
 use messages::MAX_ACK;
@@ -178,7 +177,7 @@ fn judge(kind: u32, header: &[u8; HEADER], payload: &[u8; MAX_ACK_PAYLOAD], size
     let mut message = [0u8; MAX_ACK];
     octets::copy(&mut message[0..HEADER], header);
     octets::copy(&mut message[HEADER..MAX_ACK], payload);
-    let answer = read_ack(kind, &message[0..HEADER + size]);
+    let answer = guest_messages::read_ack(kind, &message[0..HEADER + size]);
     match answer {
         AckAnswer::Status(status) => Sight::Status(status),
         AckAnswer::Flags(flags) => Sight::Flags(flags),

@@ -1,6 +1,6 @@
 // The guest's end by value: the calls in place with the parts of a guest lent to them, and put together again.
 ghost use mathlib.Core.Path.{_≡_};
-ghost use Rattle.frontend.specs.Writer.{getFlagsMessage, setFlagsMessage, setKeyMessage, setMappingMessage};
+ghost use Rattle.guest_messages.specs.Writer.{getFlagsMessage, setFlagsMessage, setKeyMessage, setMappingMessage};
 ghost use Rattle.frontend.specs.Guest.{Good, guestAtSetup};
 ghost use Rattle.frontend.specs.Calls.{after, startOf, eventOf};
 use crate::Guest;

@@ -1,12 +1,9 @@
-// The guest's side: a writer of the four requests, a reader of acks, and the guest's end of the ring, by which a driver
-// starts a request, is called at each event, and is handed the status. What is written is judged by form alone: whether a
-// queue number is good is for the host to say.
+// The guest's end of the ring: a driver starts a request, is called at each event, and is handed the status. The host's page
+// is not trusted: the guest's own counts are its own, and an ack that is none ends the exchange.
 mod calls;
 mod collecting;
 mod guests;
-mod reader;
 mod starting;
-mod writer;
 
 pub use collecting::event_in_place;
 pub use guests::event;
@@ -16,23 +13,12 @@ pub use guests::start_set_flags;
 pub use guests::start_set_key;
 pub use guests::start_set_mapping;
 use messages::HEADER;
-pub use reader::read_ack;
 pub use starting::start_get_flags_in_place;
 pub use starting::start_set_flags_in_place;
 pub use starting::start_set_key_in_place;
 pub use starting::start_set_mapping_in_place;
-pub use writer::write_get_flags;
-pub use writer::write_set_flags;
-pub use writer::write_set_key;
-pub use writer::write_set_mapping;
 
-// The refusals by number. That of a key that is not 40 octets is the hash's own, 8.
-pub const BUFFER_TOO_SHORT: u32 = 10;
-
-pub const VALUE_NOT_LISTED: u32 = 11;
-
-pub const NOT_AN_ACK: u32 = 12;
-
+// The refusal of a request begun while one is outstanding.
 pub const REQUEST_OUTSTANDING: u32 = 13;
 
 // The most octets of a request, and of an ack's payload.
@@ -46,26 +32,6 @@ pub const IDLE: u32 = 0;
 pub const OUTSTANDING: u32 = 1;
 
 pub const FAILED: u32 = 2;
-
-pub enum Written {
-    // The octets of the message, which stands at the start of the buffer.
-    Length(usize),
-    // The key is not 40 octets.
-    KeyLength,
-    // The flags are above 15, or the mapping's length is not 1, 2, 4, .. 128.
-    Value,
-    // The buffer is shorter than the message.
-    Buffer,
-}
-
-pub enum AckAnswer {
-    // A status alone.
-    Status(u8),
-    // Status 0, and the flags that the host supports.
-    Flags(u8),
-    // Not an ack to this request.
-    NotAnAck,
-}
 
 // The guest's end of a ring: the present request of `length` octets, of which `written` are on the page, with the count
 // of octets written; and what has been read of its ack, with the count of octets read. Both counts are the guest's own.

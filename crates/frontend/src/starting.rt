@@ -5,7 +5,7 @@ ghost use Prim.Native.Nat.{_≤_};
 ghost use lib.ListN.{length};
 ghost use Rattle.ring.specs.Page.{pageSize, areaSize};
 ghost use Rattle.ring.specs.Writing.{outgoingOf};
-ghost use Rattle.frontend.specs.Writer.{getFlagsMessage, setFlagsMessage, setKeyMessage, setMappingMessage};
+ghost use Rattle.guest_messages.specs.Writer.{getFlagsMessage, setFlagsMessage, setKeyMessage, setMappingMessage};
 ghost use Rattle.frontend.specs.Guest.{outstanding};
 ghost use Rattle.frontend.specs.Calls.{Starts};
 ghost use Rattle.frontend.specs.Inner.{Readies, WritesOn};
@@ -14,14 +14,10 @@ use crate::IDLE;
 use crate::MAX_REQUEST;
 use crate::OUTSTANDING;
 use crate::Refusal;
-use crate::Written;
 use crate::calls::Finding;
 use crate::calls::find;
 use crate::calls::write_on;
-use crate::writer::write_get_flags;
-use crate::writer::write_set_flags;
-use crate::writer::write_set_key;
-use crate::writer::write_set_mapping;
+use guest_messages::Written;
 use messages::HEADER;
 
 // What a start finds: the room in the request area, or why it is refused.
@@ -48,7 +44,7 @@ pub fn start_get_flags_in_place<'a>(
     match readiness {
         Readiness::Stopped(refusal) => GuestAnswer::Refused(refusal),
         Readiness::Room(room) => {
-            write_get_flags(&mut request[..]);
+            guest_messages::write_get_flags(&mut request[..]);
             begin(
                 HEADER,
                 phase,
@@ -83,7 +79,7 @@ pub fn start_set_flags_in_place<'a>(
     match readiness {
         Readiness::Stopped(refusal) => GuestAnswer::Refused(refusal),
         Readiness::Room(room) => {
-            let answer = write_set_flags(&mut request[..], flags);
+            let answer = guest_messages::write_set_flags(&mut request[..], flags);
             let Written::Length(n) = answer else {
                 return GuestAnswer::Refused(Refusal::ValueRefused);
             };
@@ -121,7 +117,7 @@ pub fn start_set_key_in_place<'a>(
     match readiness {
         Readiness::Stopped(refusal) => GuestAnswer::Refused(refusal),
         Readiness::Room(room) => {
-            let answer = write_set_key(&mut request[..], key);
+            let answer = guest_messages::write_set_key(&mut request[..], key);
             let Written::Length(n) = answer else {
                 return GuestAnswer::Refused(Refusal::KeyRefused);
             };
@@ -159,7 +155,7 @@ pub fn start_set_mapping_in_place<'a>(
     match readiness {
         Readiness::Stopped(refusal) => GuestAnswer::Refused(refusal),
         Readiness::Room(room) => {
-            let answer = write_set_mapping(&mut request[..], entries);
+            let answer = guest_messages::write_set_mapping(&mut request[..], entries);
             let Written::Length(n) = answer else {
                 return GuestAnswer::Refused(Refusal::ValueRefused);
             };

@@ -4,10 +4,10 @@ use cases::print_number;
 use cases::print_word;
 use frontend::GuestAnswer;
 use frontend::GuestHandled;
-use frontend::NOT_AN_ACK;
 use frontend::REQUEST_OUTSTANDING;
 use frontend::Refusal;
-use frontend::VALUE_NOT_LISTED;
+use guest_messages::NOT_AN_ACK;
+use guest_messages::VALUE_NOT_LISTED;
 use toeplitz::KEY_LENGTH_WRONG;
 
 // The answer, the guest's phase and own counts, and all octets of the buffer.

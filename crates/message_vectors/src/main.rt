@@ -14,7 +14,7 @@ use cases::case_at;
 use cases::entries_in;
 use cases::number_at;
 use cases::print_cut;
-use frontend::Written;
+use guest_messages::Written;
 use messages::MAX_PAYLOAD;
 use messages::Settings;
 
@@ -150,10 +150,10 @@ fn write_start(buffer: &mut [u8], room: usize, kind: u8, given: &[u8])
 
 fn write_into(buffer: &mut [u8], kind: u8, given: &[u8]) -> Written {
     if kind == WRITE_GET_FLAGS {
-        return frontend::write_get_flags(buffer);
+        return guest_messages::write_get_flags(buffer);
     }
     if kind == WRITE_SET_KEY {
-        return frontend::write_set_key(buffer, given);
+        return guest_messages::write_set_key(buffer, given);
     }
     if kind == WRITE_SET_MAPPING {
         return write_mapping(buffer, given);
@@ -161,7 +161,7 @@ fn write_into(buffer: &mut [u8], kind: u8, given: &[u8]) -> Written {
     if given.len() < 8 {
         return Written::Value;
     }
-    frontend::write_set_flags(buffer, octets::read_u64(given, 0))
+    guest_messages::write_set_flags(buffer, octets::read_u64(given, 0))
 }
 
 fn write_mapping(buffer: &mut [u8], given: &[u8]) -> Written {
@@ -177,7 +177,7 @@ fn write_mapping(buffer: &mut [u8], given: &[u8]) -> Written {
 fn write_first(buffer: &mut [u8], entries: &[u64], count: usize) -> Written
     requires { ⌜ count ≤ length (now entries) ⌝ }
 {
-    frontend::write_set_mapping(buffer, &entries[0..count])
+    guest_messages::write_set_mapping(buffer, &entries[0..count])
 }
 
 // The type of the request, and the message to read.
@@ -186,5 +186,5 @@ fn read(body: &[u8]) {
         print_cut();
         return;
     }
-    print_ack_answer(frontend::read_ack(octets::read_u32(body, 0), &body[4..]));
+    print_ack_answer(guest_messages::read_ack(octets::read_u32(body, 0), &body[4..]));
 }

@@ -4,8 +4,8 @@ use mathlib.Core.Path.{_≡_, ap, _∙_}
 use mathlib.Core.List.{List}
 use Prim.Native.Nat.{ℕ}
 use Rattle.octets.specs.Outcome.{Outcome}
-use Rattle.frontend.specs.Writer.{After, written, writtenOutcomeOf, after}
-use Rattle.frontend.specs.declared.Written.{Written}
+use Rattle.guest_messages.specs.Writer.{After, written, writtenOutcomeOf, after}
+use Rattle.guest_messages.specs.declared.Written.{Written}
 use Rattle.zwerfen.specs.Answers.{numberOf, placed, itself, Writes}
 
 pub writes : (message : Outcome (List ℕ)) (buffer left : List ℕ) (answer : Written) (before r length : ℕ)

@@ -9,8 +9,8 @@ use Rattle.toeplitz.specs.TwoWay.{Verdict, agree, differAt}
 use Rattle.steering.specs.Steering.{Choice, unhashed, hashed, queueIn}
 use Rattle.backend.specs.Events.{After}
 use Rattle.backend.specs.declared.Interface.{Interface}
-use Rattle.frontend.specs.Writer.{written}
-use Rattle.frontend.specs.Reader.{Reading, status, statusAndFlags}
+use Rattle.guest_messages.specs.Writer.{written}
+use Rattle.guest_messages.specs.Reader.{Reading, status, statusAndFlags}
 use Rattle.frontend.specs.Guest.{Told, number, acked, toldNumber}
 use Rattle.frontend.specs.Calls as guest
 use Rattle.frontend.specs.declared.Guest.{Guest}

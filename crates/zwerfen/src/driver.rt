@@ -1,7 +1,7 @@
 // The guest's end of the ring, for a driver. The guest stands in the driver's memory and is lent; each call lends its parts
 // on to a function that the prover covers, so that none copies it.
 ghost use mathlib.Core.Path.{_≡_};
-ghost use Rattle.frontend.specs.Writer.{getFlagsMessage, setFlagsMessage, setKeyMessage, setMappingMessage};
+ghost use Rattle.guest_messages.specs.Writer.{getFlagsMessage, setFlagsMessage, setKeyMessage, setMappingMessage};
 ghost use Rattle.frontend.specs.Guest.{Good, guestOf, guestAtSetup, toldNumber, refusalNumber, toldOf};
 ghost use Rattle.frontend.specs.Calls.{startOf, eventOf};
 ghost use Rattle.zwerfen.specs.Answers.{Leaves, statusOfTold, flagsOfTold};
@@ -12,10 +12,10 @@ use frontend::Guest;
 use frontend::GuestAnswer;
 use frontend::MAX_ACK_PAYLOAD;
 use frontend::MAX_REQUEST;
-use frontend::NOT_AN_ACK;
 use frontend::REQUEST_OUTSTANDING;
 use frontend::Refusal;
-use frontend::VALUE_NOT_LISTED;
+use guest_messages::NOT_AN_ACK;
+use guest_messages::VALUE_NOT_LISTED;
 use messages::HEADER;
 use messages::SUCCESS;
 use toeplitz::KEY_LENGTH_WRONG;

@@ -1,14 +1,14 @@
 // The guest's writer of requests and reader of acks.
 ghost use mathlib.Core.Path.{_≡_};
-ghost use Rattle.frontend.specs.Writer.{getFlagsMessage, setFlagsMessage, setKeyMessage, setMappingMessage, writtenOutcomeOf};
-ghost use Rattle.frontend.specs.Reader.{readAck};
+ghost use Rattle.guest_messages.specs.Writer.{getFlagsMessage, setFlagsMessage, setKeyMessage, setMappingMessage, writtenOutcomeOf};
+ghost use Rattle.guest_messages.specs.Reader.{readAck};
 ghost use Rattle.zwerfen.specs.Answers.{numberOf, placed, itself, statusTold, flagsTold, Writes};
 use crate::DONE;
-use frontend::AckAnswer;
-use frontend::BUFFER_TOO_SHORT;
-use frontend::NOT_AN_ACK;
-use frontend::VALUE_NOT_LISTED;
-use frontend::Written;
+use guest_messages::AckAnswer;
+use guest_messages::BUFFER_TOO_SHORT;
+use guest_messages::NOT_AN_ACK;
+use guest_messages::VALUE_NOT_LISTED;
+use guest_messages::Written;
 use messages::SUCCESS;
 use toeplitz::KEY_LENGTH_WRONG;
 
@@ -17,7 +17,7 @@ use toeplitz::KEY_LENGTH_WRONG;
 pub extern "C" fn zwerfen_write_get_flags(buffer: &mut [u8], length: &mut usize) -> u32
     ensures { λ r. ⌜ Writes getFlagsMessage (now (buffer .entry)) (now (length .entry)) r (now (buffer .exit)) (now (length .exit)) ⌝ }
 {
-    let answer = frontend::write_get_flags(buffer);
+    let answer = guest_messages::write_get_flags(buffer);
     tell(answer, length)
 }
 
@@ -26,7 +26,7 @@ pub extern "C" fn zwerfen_write_get_flags(buffer: &mut [u8], length: &mut usize)
 pub extern "C" fn zwerfen_write_set_flags(buffer: &mut [u8], flags: u64, length: &mut usize) -> u32
     ensures { λ r. ⌜ Writes (setFlagsMessage flags) (now (buffer .entry)) (now (length .entry)) r (now (buffer .exit)) (now (length .exit)) ⌝ }
 {
-    let answer = frontend::write_set_flags(buffer, flags);
+    let answer = guest_messages::write_set_flags(buffer, flags);
     tell(answer, length)
 }
 
@@ -35,7 +35,7 @@ pub extern "C" fn zwerfen_write_set_flags(buffer: &mut [u8], flags: u64, length:
 pub extern "C" fn zwerfen_write_set_key(buffer: &mut [u8], key: &[u8], length: &mut usize) -> u32
     ensures { λ r. ⌜ Writes (setKeyMessage (now (key .entry))) (now (buffer .entry)) (now (length .entry)) r (now (buffer .exit)) (now (length .exit)) ⌝ }
 {
-    let answer = frontend::write_set_key(buffer, key);
+    let answer = guest_messages::write_set_key(buffer, key);
     tell(answer, length)
 }
 
@@ -48,7 +48,7 @@ pub extern "C" fn zwerfen_write_set_mapping(
 ) -> u32
     ensures { λ r. ⌜ Writes (setMappingMessage (now (entries .entry))) (now (buffer .entry)) (now (length .entry)) r (now (buffer .exit)) (now (length .exit)) ⌝ }
 {
-    let answer = frontend::write_set_mapping(buffer, entries);
+    let answer = guest_messages::write_set_mapping(buffer, entries);
     tell(answer, length)
 }
 
@@ -80,7 +80,7 @@ pub extern "C" fn zwerfen_read_ack(
     ensures { λ _. ⌜ now (status .exit) ≡ placed statusTold (readAck kind (now (message .entry))) (now (status .entry)) ⌝ }
     ensures { λ _. ⌜ now (flags .exit) ≡ placed flagsTold (readAck kind (now (message .entry))) (now (flags .entry)) ⌝ }
 {
-    let answer = frontend::read_ack(kind, message);
+    let answer = guest_messages::read_ack(kind, message);
     match answer {
         AckAnswer::Status(s) => {
             *status = s as u32;

@@ -10,9 +10,9 @@ use borrow.Rule.Slice.PartMut.{putMid}
 use borrow.Author.Needs.{needs}
 use Rattle.messages.specs.Wire.{headerSize}
 use Rattle.frontend.specs.Guest.{maxAckPayload}
-use Rattle.frontend.specs.Reader.{readAck, ackOutcomeOf}
+use Rattle.guest_messages.specs.Reader.{readAck, ackOutcomeOf}
 use Rattle.frontend.specs.Calls.{judged}
-use Rattle.frontend.specs.declared.AckAnswer.{AckAnswer}
+use Rattle.guest_messages.specs.declared.AckAnswer.{AckAnswer}
 use Rattle.frontend.proofs.Collects.{put-together, put-part}
 use Rattle.frontend.proofs.collecting.judge.Statement.{statement}
 use Rattle.frontend.proofs.collecting.judge.Tie as tie

@@ -2,7 +2,7 @@
 -- Assumes nothing.
 use borrow.Author.Needs.{needs}
 use Rattle.messages.specs.Wire.{headerSize}
-use Rattle.frontend.specs.Writer.{getFlagsMessage}
+use Rattle.guest_messages.specs.Writer.{getFlagsMessage}
 use Rattle.frontend.specs.declared.GuestAnswer.{GuestAnswer}
 use Rattle.frontend.proofs.Starts.{Wrote, wrote-header, may-begin, starts-stopped, starts-with}
 use Rattle.frontend.proofs.starting.start_get_flags_in_place.Statement.{statement}

@@ -42,7 +42,7 @@ use denote.Triple.Table.{entered, cited}
 use denote.Triple.Walked.{says, needs, Stays, stay-ref, stay-dropped, gave-slice, walkOf, AllGo, goes-dropped, goes-gave-slice, goes-ref}
 use denote.Triple.Walked.{Walks, ends-at, walked, walk-meets}
 use Rattle.frontend.specs.Guest.{Good}
-use Rattle.frontend.specs.Writer.{setKeyMessage}
+use Rattle.guest_messages.specs.Writer.{setKeyMessage}
 use Rattle.frontend.specs.Calls.{startOf}
 use Rattle.frontend.specs.declared.Guest.{Guest}
 use Rattle.frontend.proofs.Guest as T

@@ -4,8 +4,8 @@ use mathlib.Core.Path.{_≡_, sym, ap, _∙_}
 use Prim.Native.Nat.{ℕ}
 use borrow.Author.Needs.{needs}
 use Rattle.octets.specs.Outcome.{Outcome}
-use Rattle.frontend.specs.Reader.{Reading, readAck, ackOutcomeOf}
-use Rattle.frontend.specs.declared.AckAnswer.{AckAnswer}
+use Rattle.guest_messages.specs.Reader.{Reading, readAck, ackOutcomeOf}
+use Rattle.guest_messages.specs.declared.AckAnswer.{AckAnswer}
 use Rattle.zwerfen.specs.Answers.{numberOf, placed, statusTold, flagsTold}
 use Rattle.zwerfen.proofs.guest.zwerfen_read_ack.Statement.{statement}
 use Rattle.zwerfen.proofs.guest.zwerfen_read_ack.Tie as tie

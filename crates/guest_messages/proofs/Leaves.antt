@@ -1,0 +1,59 @@
+-- What a call of the writer leaves, by its answer; and when it refuses.
+-- Assumes nothing.
+use mathlib.Core.Path.{_≡_, refl, sym, ap, _∙_}
+use mathlib.Core.Logic.{_↔_}
+use mathlib.Core.List.{List}
+use mathlib.Core.Bool.{Bool, true, false, cond, false≢true}
+use Prim.Native.Nat.{ℕ, _≤_, _<_}
+use lib.ListN.{length, take, drop}
+use lib.Seq.{take-append-seam, drop-append-seam}
+use lib.Dec.{leb}
+use borrow.Author.Tests.{leb-true, leb-false}
+use Rattle.octets.specs.Outcome.{Outcome, value, refused}
+use Rattle.octets.proofs.Outcomes.{value-same, refused-same, value-not-refused}
+use Rattle.guest_messages.specs.Refusals.{bufferTooShort}
+use Rattle.guest_messages.specs.Writer.{After, written}
+use Rattle.guest_messages.proofs.Buffers.{written-whole, written-short}
+
+-- a message, by the room for it
+module _ (m b : List ℕ) where
+  answer-whole : length m ≤ length b → written (value m) b .answer ≡ value (length m)
+  answer-whole h = sym (ap (λ (x : After). x .answer) (written-whole m b h))
+
+  pub answer-short : length b < length m → written (value m) b .answer ≡ refused bufferTooShort
+  answer-short h = sym (ap (λ (x : After). x .answer) (written-short m b h))
+
+  by-room : {P : Type 0} → (length m ≤ length b → P) → (length b < length m → P) → P
+  by-room {P} fits short = by (leb (length m) (length b)) refl
+    where
+      by : (t : Bool) → leb (length m) (length b) ≡ t → P
+      by true h = fits (leb-true _ _ h)
+      by false h = short (leb-false _ _ h)
+
+  pub message-refused : (k : ℕ) → written (value m) b .answer ≡ refused k → (k ≡ bufferTooShort) × (length b < length m)
+  message-refused k e =
+      by-room (λ h. absurd (value-not-refused (length m) k (sym (answer-whole h) ∙ e)))
+      (λ h. (sym (refused-same bufferTooShort k (sym (answer-short h) ∙ e)), h))
+
+  -- a message that is written stands at the start, and the octets behind it stay
+  pub message-left : (n : ℕ) → written (value m) b .answer ≡ value n
+      → (n ≡ length m) × (take n (written (value m) b .buffer) ≡ m) × (drop n (written (value m) b .buffer) ≡ drop n b)
+  message-left n e = by-room whole (λ h. absurd (value-not-refused n bufferTooShort (sym e ∙ answer-short h)))
+    where
+      whole : length m ≤ length b → (n ≡ length m) × (take n (written (value m) b .buffer) ≡ m) × (drop n (written (value m) b .buffer) ≡ drop n b)
+      whole h =
+          let w = written-whole m b h in
+          let same : n ≡ length m = value-same n (length m) (sym e ∙ answer-whole h) in
+          (same, rw (← w, same) (take-append-seam m _), rw (← w, same) (drop-append-seam m _))
+
+pub refused-keeps : (o : Outcome (List ℕ)) (b : List ℕ) (k : ℕ) → written o b .answer ≡ refused k → written o b .buffer ≡ b
+unfolding written
+refused-keeps (value m) b k e = sym (ap (λ (x : After). x .buffer) (written-short m b (message-refused m b k e .1)))
+refused-keeps (refused j) b k e = refl
+
+-- a call with one test of its own refuses by its own number exactly where the test fails
+pub refuses-first : (m b : List ℕ) (k : ℕ) → (k ≡ bufferTooShort → ⊥) → (t : Bool)
+    → (written (cond t (value m) (refused k)) b .answer ≡ refused k) ↔ (t ≡ false)
+unfolding written
+refuses-first m b k other true = (λ e. absurd (other (message-refused m b k e .0)), λ e. absurd (false≢true (sym e)))
+refuses-first m b k other false = (λ e. refl, λ e. refl)

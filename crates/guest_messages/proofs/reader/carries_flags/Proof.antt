@@ -1,0 +1,16 @@
+-- `frontend::reader::carries_flags` meets its contract: only a get flags has flags in its ack.
+-- Assumes nothing.
+use mathlib.Core.Path.{sym}
+use borrow.Author.Needs.{needs}
+use Rattle.guest_messages.proofs.Accepts.{get-flags-carries, other-carries-none}
+use Rattle.guest_messages.proofs.reader.carries_flags.Statement.{statement}
+use Rattle.guest_messages.proofs.reader.carries_flags.Tie as tie
+
+returns : tie.Need-returns
+returns c = sym (other-carries-none _ _ (c .if1 .taken))
+
+returns-2 : tie.Need-returns-2
+returns-2 c = sym (get-flags-carries _ _ (c .if1 .left))
+
+pub carries-flags-spec : {M : Type 1} → statement M
+carries-flags-spec = tie.close (tie.spec returns (λ c. search needs) returns-2)
