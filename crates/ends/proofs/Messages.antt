@@ -11,6 +11,7 @@ use lib.Seq.{sets, sets-eq, length-take-le, take-at}
 use lib.Dec.{eqb, leb}
 use borrow.Author.Tests.{le-leb}
 use Rattle.octets.specs.Numbers.{octetsOf}
+use Rattle.octets.specs.Outcome.{Outcome, value}
 use Rattle.octets.proofs.Outcomes.{value-same, test-value}
 use Rattle.octets.proofs.Copies.{sets-all}
 use Rattle.octets.proofs.Numbers.{length-octets}
@@ -29,9 +30,10 @@ use Rattle.ring.proofs.Holdings.{size-take}
 use Rattle.frontend.specs.Guest.{maxRequest, maxAckPayload}
 use Rattle.guest_messages.specs.Writer.{fieldsOf}
 use Rattle.guest_messages.specs.Reader.{readAck}
+use Rattle.frontend.specs.Rules.{Asked, getsFlags, setsFlags, setsKey, setsMapping}
 use Rattle.frontend.specs.Calls.{sizeWrong, messageOctets, judged, seen}
 use Rattle.frontend.proofs.Goodness.{short-get-flags, short-set-flags, short-set-key, short-set-mapping}
-use Rattle.ends.specs.Ends.{Made, getsFlags, setsFlags, setsKey, setsMapping}
+use Rattle.ends.specs.Ends.{Made}
 
 -- a message is as long as its header says
 message-long : (t : ℕ) (p : List ℕ) → length p < 256 ^ 4 → length (message t p) ≡ messageLength (message t p)
@@ -43,14 +45,18 @@ message-shaped : (t : ℕ) (p m : List ℕ) → message t p ≡ m → length m �
 message-shaped t p m same short =
     (rw (← same) (message-long t p (omega (arith, length-message t p, ap length same))), short)
 
-pub made-shaped : (m : List ℕ) → Made m → (length m ≡ messageLength m) × (length m ≤ maxRequest)
-made-shaped l (getsFlags m e) = message-shaped getFlagsType [] m (value-same _ _ e) (short-get-flags m e)
-made-shaped l (setsFlags flags m e) =
+asked-shaped : (request : Outcome (List ℕ)) → Asked request → (m : List ℕ) → request ≡ value m
+    → (length m ≡ messageLength m) × (length m ≤ maxRequest)
+asked-shaped _ getsFlags m e = message-shaped getFlagsType [] m (value-same _ _ e) (short-get-flags m e)
+asked-shaped _ (setsFlags flags) m e =
     message-shaped setFlagsType (octetsOf fieldSize flags) m (test-value (leb flags allFlags) _ m _ e .1) (short-set-flags flags m e)
-made-shaped l (setsKey key m e) =
+asked-shaped _ (setsKey key) m e =
     message-shaped setKeyType key m (test-value (eqb (length key) keyLength) _ m _ e .1) (short-set-key key m e)
-made-shaped l (setsMapping entries m e) =
+asked-shaped _ (setsMapping entries) m e =
     message-shaped setMappingType (fieldsOf entries) m (test-value (isListed (length entries)) _ m _ e .1) (short-set-mapping entries m e)
+
+pub made-shaped : (m : List ℕ) → Made m → (length m ≡ messageLength m) × (length m ≤ maxRequest)
+made-shaped m made = asked-shaped (made .0) (made .1) m (made .2)
 
 -- such a message read whole, from its first octet on
 pub received-message : (xs h p : List ℕ) → length h ≡ headerSize → length xs ≡ messageLength xs

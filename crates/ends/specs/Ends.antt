@@ -6,7 +6,7 @@ use mathlib.Core.Bool.{false, cond}
 use Prim.Native.Nat.{ℕ, zero, suc}
 use lib.ListN.{length, replicate}
 use lib.Dec.{leb}
-use Rattle.octets.specs.Outcome.{value}
+use Rattle.octets.specs.Outcome.{Outcome, value}
 use Rattle.messages.specs.Wire.{typeIn}
 use Rattle.messages.specs.Requests.{requestOf, ackStatus, carriedMessage}
 use Rattle.messages.specs.declared.Settings.{Settings}
@@ -15,10 +15,10 @@ use Rattle.backend.specs.States.{interfaceAtSetup, Good as GoodHost}
 use Rattle.backend.specs.Events.{eventOf as hostEventOf, owes as hostOwes}
 use Rattle.backend.specs.Streams.{settingsAfter}
 use Rattle.backend.specs.declared.Interface.{Interface}
-use Rattle.guest_messages.specs.Writer.{getFlagsMessage, setFlagsMessage, setKeyMessage, setMappingMessage}
 use Rattle.guest_messages.specs.Reader.{Reading, answerTo}
 use Rattle.frontend.specs.Guest.{idle, guestAtSetup, Told, number, acked, pending, Good as GoodGuest}
 use Rattle.frontend.specs.Calls.{After, startOf, eventOf}
+use Rattle.frontend.specs.Rules.{Asked}
 use Rattle.frontend.specs.declared.Guest.{Guest}
 
 -- both ends and the page between them
@@ -66,11 +66,8 @@ toldInRounds zero e = []
 toldInRounds (suc n) e = toldIn e ∷ toldInRounds n (round e)
 
 -- a message that the writer makes of a request that it accepts
-pub data Made : List ℕ → Type 0 where
-  getsFlags : (m : List ℕ) → getFlagsMessage ≡ value m → Made m
-  setsFlags : (flags : ℕ) (m : List ℕ) → setFlagsMessage flags ≡ value m → Made m
-  setsKey : (key m : List ℕ) → setKeyMessage key ≡ value m → Made m
-  setsMapping : (entries m : List ℕ) → setMappingMessage entries ≡ value m → Made m
+abbrev pub Made : List ℕ → Type 0
+Made m = (request : Outcome (List ℕ)) × Asked request × (request ≡ value m)
 
 -- the rounds that a request takes: one if the request area holds all its octets, else two
 abbrev pub roundsFor : List ℕ → ℕ

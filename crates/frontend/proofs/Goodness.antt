@@ -25,6 +25,7 @@ use Rattle.guest_messages.specs.Writer.{fieldsOf, getFlagsMessage, setFlagsMess
 use Rattle.frontend.specs.Guest.{idle, failed, maxRequest, maxAckPayload, incoming, withIncoming, owes, guestAtSetup, Good}
 use Rattle.frontend.specs.Calls.{After, Found, found, begun, wroteOn, startedBy, readied, startBy, startOf, doneWith}
 use Rattle.frontend.specs.Calls.{Seen, part, judged, sizeWrong, seen, concluded, readOn, eventBy, eventOf, left}
+use Rattle.frontend.specs.Rules.{Asked, getsFlags, setsFlags, setsKey, setsMapping}
 use Rattle.frontend.specs.declared.Guest.{Guest}
 use Rattle.frontend.specs.declared.GuestAnswer.{GuestAnswer}
 use Rattle.guest_messages.proofs.Theorems.{message-lengths}
@@ -48,6 +49,15 @@ short-set-mapping entries m e =
     let x = test-value (isListed (length entries)) (message setMappingType (fieldsOf entries)) m _ e in
     let few = listed-parts (length entries) .0 (x .0) .1 in
     rw (← x .1) (omega (arith, message-lengths .3 entries, few))
+
+abbrev pub Fits : Outcome (List ℕ) → Type 0
+Fits request = (m : List ℕ) → request ≡ value m → length m ≤ maxRequest
+
+pub asked-fits : (request : Outcome (List ℕ)) → Asked request → Fits request
+asked-fits _ getsFlags = short-get-flags
+asked-fits _ (setsFlags flags) = short-set-flags flags
+asked-fits _ (setsKey key) = short-set-key key
+asked-fits _ (setsMapping entries) = short-set-mapping entries
 
 pub good-at-setup : Good guestAtSetup
 good-at-setup =
@@ -85,25 +95,24 @@ good-begun g m short rest good =
     }
 
 good-started-by : (o : Outcome (List ℕ)) (g : Guest) (page : List ℕ) (room : ℕ)
-    → ((m : List ℕ) → o ≡ value m → length m ≤ maxRequest) → g .phase ≡ idle → Good g → Good (startedBy o g page room .state)
+    → Fits o → g .phase ≡ idle → Good g → Good (startedBy o g page room .state)
 unfolding startedBy
 good-started-by (value m) g page room short rest good = good-wrote (begun g m) page room (good-begun g m (short m refl) rest good)
 good-started-by (refused k) g page room short rest good = good
 
 good-start-by : (f : Outcome Found) (o : Outcome (List ℕ)) (g : Guest) (page : List ℕ)
-    → ((m : List ℕ) → o ≡ value m → length m ≤ maxRequest) → Good g → Good (startBy (readied f g) o g page .state)
+    → Fits o → Good g → Good (startBy (readied f g) o g page .state)
 unfolding readied startBy
 good-start-by (value f) o g page short good =
     by-test (λ (r : Outcome ℕ). Good (startBy r o g page .state)) (eqb (g .phase) idle) _ _
     (λ rest. good-started-by o g page (f .room) short (eqb-true _ _ rest) good) (λ busy. good)
 good-start-by (refused k) o g page short good = good
 
-pub good-started : (o : Outcome (List ℕ)) (g : Guest) (page : List ℕ) → ((m : List ℕ) → o ≡ value m → length m ≤ maxRequest)
-    → Good g → Good (startOf o g page .state)
+pub good-started : (o : Outcome (List ℕ)) (g : Guest) (page : List ℕ) → Fits o → Good g → Good (startOf o g page .state)
 good-started o g page short good = good-start-by (found g page) o g page short good
 
 -- of an ack a part is there only where it is not whole
-judged-all : (o : Outcome Reading) → judged o ≡ part → ⊥
+pub judged-all : (o : Outcome Reading) → judged o ≡ part → ⊥
 judged-all o e =
     let z : _≡_ {A = ℕ} 0 1 = cc in
     omega arith
@@ -176,7 +185,7 @@ good-event g page good = good-event-by (found g page) g page good
 
 -- what a start in place leaves is what the definition says, and good
 pub starts-good : (o : Outcome (List ℕ)) (g t : Guest) (page octets : List ℕ) (r : GuestAnswer)
-    → ((m : List ℕ) → o ≡ value m → length m ≤ maxRequest) → Good g → left r t octets ≡ startOf o g page
+    → Fits o → Good g → left r t octets ≡ startOf o g page
     → (left r t octets ≡ startOf o g page) × Good t
 starts-good o g t page octets r short good e =
     let same : t ≡ startOf o g page .state = ap (λ (a : After). a .state) e in

@@ -1,29 +1,34 @@
 -- The page under the guest's calls: what is written, what is left, and what is read.
 -- Assumes nothing.
-use mathlib.Core.Path.{_≡_, refl, ap, _∙_}
+use mathlib.Core.Path.{_≡_, refl, sym, ap, subst, _∙_}
 use mathlib.Core.List.{List}
-use mathlib.Core.Logic.{inl, inr}
+use mathlib.Core.Logic.{_⊎_, inl, inr}
 use mathlib.Core.Bool.{Bool, true, false, cond}
 use Prim.Native.Nat.{ℕ, _+_, _%_, _^_, _≤_, _<_}
 use native.Mathlib.Omega.{arith}
-use lib.ListN.{length, getD, drop, length-take}
+use lib.ListN.{length, getD, drop, length-take, length-drop}
+use lib.Seq.{length-take-le}
 use lib.Dec.{eqb}
 use Rattle.octets.specs.Outcome.{Outcome, value, refused}
+use Rattle.toeplitz.specs.Refusals.{keyLengthWrong}
 use Rattle.ring.specs.Page.{pageSize, areaSize, reqConsAt, reqProdAt, rspConsAt, rspProdAt, requestsAt, responsesAt, countIn}
 use Rattle.ring.specs.Page.{less, countedByGuest, octetsIn, put}
 use Rattle.ring.specs.Reading.{receivedFrom}
 use Rattle.ring.specs.Writing.{fitting, sentOctets, sent}
 use Rattle.ring.specs.declared.Incoming.{Incoming}
-use Rattle.ring.proofs.Places.{put-length}
+use Rattle.ring.proofs.Places.{octets-none, put-length}
 use Rattle.ring.proofs.Untouched.{guest-counted-beside, guest-counted-length, guest-counted-cons, guest-counted-prod, guest-counted-others}
-use Rattle.ring.proofs.Untouched.{put-other, octets-agree}
+use Rattle.ring.proofs.Untouched.{guest-counted-octets, put-other, put-stands, octets-agree}
+use Rattle.guest_messages.specs.Refusals.{valueNotListed}
 use Rattle.frontend.specs.Guest.{idle, outgoing, incoming, withOutgoing, owes, number, pending, requestOwed, toldNumber, Good}
 use Rattle.frontend.specs.Calls.{After, Found, found, unreadRequests, answeredWith, begun, wroteOn, startedBy, readied}
 use Rattle.frontend.specs.Calls.{startBy, startOf, Seen, part, judged, concluded, readOn, eventBy, eventOf}
-use Rattle.frontend.specs.Rules.{Accepted, room, NoOwnCount, moved, RequestPlace, Alike, Fits}
+use Rattle.frontend.specs.Rules.{Asked, Accepted, room, NoOwnCount, moved, RequestPlace, WritesNext, Alike}
 use Rattle.frontend.specs.declared.Guest.{Guest}
-use Rattle.frontend.proofs.Goodness.{good-begun, good-started, good-event}
+use Rattle.frontend.proofs.Goodness.{asked-fits, good-begun, good-started, good-event}
 use Rattle.frontend.proofs.Ways.{event-ways, read-ways, start-ways}
+use Rattle.frontend.proofs.GuestAnswers.{asked-refused}
+use Rattle.frontend.proofs.GuestRules.{begins}
 
 -- ---- the page keeps its length
 
@@ -75,11 +80,15 @@ back-wrote g page n good size =
 abbrev Returns : After → Type 0
 Returns a = Good (a .state) → toldNumber (a .answer) ≤ requestOwed → Back a
 
-started-returns : (request : Outcome (List ℕ)) (g : Guest) (page : List ℕ) (n : ℕ) → length page ≡ pageSize
-    → ((k : ℕ) → request ≡ refused k → requestOwed < k) → Returns (startedBy request g page n)
+started-returns : (request : Outcome (List ℕ)) (g : Guest) (page : List ℕ) (n : ℕ) → length page ≡ pageSize → Asked request
+    → Returns (startedBy request g page n)
 unfolding startedBy
-started-returns (value m) g page n size high good low = back-wrote (begun g m) page n good size
-started-returns (refused k) g page n size high good low = let x = high k refl in absurd (omega arith)
+started-returns (value m) g page n size asked good low = back-wrote (begun g m) page n good size
+started-returns (refused k) g page n size asked good low = absurd (by (asked-refused _ asked k refl))
+  where
+    by : (k ≡ keyLengthWrong) ⊎ (k ≡ valueNotListed) → ⊥
+    by (inl key) = omega arith
+    by (inr val) = omega arith
 
 module _ (g : Guest) (page : List ℕ) (good : Good g) where
   -- every call answered 0, 1 or 2 writes both own counts back
@@ -92,13 +101,13 @@ module _ (g : Guest) (page : List ℕ) (good : Good g) where
       (λ h low. absurd (omega arith)))
       (good-event g page good)
 
-  pub start-counts-written : (request : Outcome (List ℕ)) → Fits request → ((k : ℕ) → request ≡ refused k → requestOwed < k)
-      → toldNumber (startOf request g page .answer) ≤ requestOwed → Back (startOf request g page)
-  start-counts-written request fits high =
+  pub start-counts-written : (request : Outcome (List ℕ)) → Asked request → toldNumber (startOf request g page .answer) ≤ requestOwed
+      → Back (startOf request g page)
+  start-counts-written request asked =
       start-ways g page request Returns (λ w h low. absurd (omega arith)) (λ s m h low. absurd (omega arith))
       (λ s r m h low. absurd (omega arith)) (λ ok f h low. absurd (omega arith)) (λ ok well busy h low. absurd (omega arith))
-      (λ ok rest. started-returns request g page (room g page) (ok .size) high)
-      (good-started request g page fits good)
+      (λ ok rest. started-returns request g page (room g page) (ok .size) asked)
+      (good-started request g page (asked-fits request asked) good)
 
 -- ---- only the request's octets and the own counts change
 
@@ -138,16 +147,16 @@ module _ (g : Guest) (page : List ℕ) (good : Good g) where
         (λ ok well busy none. read-ways g page (Kept g page i) (λ part f. guest-counted-beside page _ _ i own)
         (λ r w a f. guest-counted-beside page _ _ i own) (λ f. refl))
 
-    started-kept : (request : Outcome (List ℕ)) → Fits request → g .phase ≡ idle → Kept g page i (startedBy request g page (room g page))
+    started-kept : (request : Outcome (List ℕ)) → Asked request → g .phase ≡ idle → Kept g page i (startedBy request g page (room g page))
     unfolding startedBy
-    started-kept (value m) fits rest = kept-wrote g (begun g m) page (room g page) i refl (good-begun g m (fits m refl) rest good) own
-    started-kept (refused k) fits rest = λ f. refl
+    started-kept (value m) asked rest = kept-wrote g (begun g m) page (room g page) i refl (good-begun g m (asked-fits _ asked m refl) rest good) own
+    started-kept (refused k) asked rest = λ f. refl
 
-    pub start-elsewhere-same : (request : Outcome (List ℕ)) → Fits request → (RequestPlace g (startOf request g page) i → ⊥)
+    pub start-elsewhere-same : (request : Outcome (List ℕ)) → Asked request → (RequestPlace g (startOf request g page) i → ⊥)
         → getD (startOf request g page .page) i 0 ≡ getD page i 0
-    start-elsewhere-same request fits =
+    start-elsewhere-same request asked =
         start-ways g page request (Kept g page i) (λ w f. refl) (λ s m f. refl) (λ s r m f. refl) (λ ok _ f. refl) (λ ok well busy f. refl)
-        (λ ok rest. started-kept request fits rest)
+        (λ ok rest. started-kept request asked rest)
 
   pub event-writes-into-room : Accepted g page → moved g (eventOf g page) + unreadRequests g page ≤ areaSize
   event-writes-into-room ok =
@@ -158,19 +167,58 @@ module _ (g : Guest) (page : List ℕ) (good : Good g) where
       (λ _ well busy nothing. read-ways g page (InRoom g page) (λ part. omega arith) (λ r w a. omega arith) (omega arith)) in
       omega (arith, most, ok .requests)
 
-  started-in-room : (request : Outcome (List ℕ)) → Fits request → g .phase ≡ idle → InRoom g page (startedBy request g page (room g page))
+  started-in-room : (request : Outcome (List ℕ)) → Asked request → g .phase ≡ idle → InRoom g page (startedBy request g page (room g page))
   unfolding startedBy
-  started-in-room (value m) fits rest = in-room-wrote g (begun g m) page (room g page) refl (good-begun g m (fits m refl) rest good)
-  started-in-room (refused k) fits rest = omega (arith, none-moved g good)
+  started-in-room (value m) asked rest = in-room-wrote g (begun g m) page (room g page) refl (good-begun g m (asked-fits _ asked m refl) rest good)
+  started-in-room (refused k) asked rest = omega (arith, none-moved g good)
 
-  pub start-writes-into-room : (request : Outcome (List ℕ)) → Fits request → Accepted g page
+  pub start-writes-into-room : (request : Outcome (List ℕ)) → Asked request → Accepted g page
       → moved g (startOf request g page) + unreadRequests g page ≤ areaSize
-  start-writes-into-room request fits ok =
+  start-writes-into-room request asked ok =
       let none = none-moved g good in
       let most =
       start-ways g page request (InRoom g page) (λ w. omega arith) (λ s m. omega arith) (λ s r m. omega arith) (λ _ f. omega arith)
-      (λ _ well busy. omega arith) (λ _ rest. started-in-room request fits rest) in
+      (λ _ well busy. omega arith) (λ _ rest. started-in-room request asked rest) in
       omega (arith, most, ok .requests)
+
+-- ---- the octets written are the request's next ones
+
+wrote-next : (g : Guest) (page : List ℕ) (n : ℕ) → Good g → length page ≡ pageSize → n ≤ areaSize → WritesNext g (wroteOn g page n)
+unfolding wroteOn
+wrote-next g page n good size small =
+    let o = outgoing g in
+    let k = fitting o n in
+    let xs = sentOctets o k in
+    let into = put requestsAt page (o .prod) xs in
+    let count : less ((o .prod + k) % 2 ^ 32) (o .prod) ≡ k = omega (arith, good .request .count, good .request .short) in
+    let left = length-drop (o .written) (o .octets) in
+    let long : length xs ≡ k =
+    length-take-le k (drop (o .written) (o .octets)) (omega (arith, good .request .size, good .request .short, good .request .within)) in
+    let stand : octetsIn requestsAt (countedByGuest into (g .«rsp_cons») ((o .prod + k) % 2 ^ 32)) (o .prod) k ≡ xs =
+    guest-counted-octets requestsAt into (g .«rsp_cons») ((o .prod + k) % 2 ^ 32) k (o .prod) (omega arith)
+    ∙ ap (octetsIn requestsAt into (o .prod)) (sym long)
+    ∙ put-stands requestsAt xs page (o .prod) (omega arith) (omega arith) in
+    record { octets = rw count stand }
+
+-- where none is written there is none
+none-next : (g : Guest) (a : After) → moved g a ≡ 0 → WritesNext g a
+none-next g a none = record { octets = rw none (octets-none requestsAt (a .page) (g .«req_prod»)) }
+
+module _ (g : Guest) (page : List ℕ) (good : Good g) where
+  pub event-writes-next : WritesNext g (eventOf g page)
+  event-writes-next =
+      let none = none-moved g good in
+      event-ways g page (WritesNext g) (λ w. none-next g _ none) (λ s m. none-next g _ none) (λ s r m. none-next g _ none)
+      (λ ok f. none-next g _ none) (λ ok rest. none-next g _ none)
+      (λ ok well busy owing. wrote-next g page (room g page) good (ok .size) (omega arith))
+      (λ ok well busy nothing. read-ways g page (WritesNext g) (λ part. none-next g _ none) (λ r w a. none-next g _ none) (none-next g _ none))
+
+  -- of a start, the guest with the request begun
+  pub start-writes-first : (request : Outcome (List ℕ)) (m : List ℕ) → Asked request → request ≡ value m → Accepted g page → g .phase ≡ idle
+      → WritesNext (begun g m) (startOf request g page)
+  start-writes-first request m asked accepts ok rest =
+      subst (WritesNext (begun g m)) (sym (begins g page request m accepts ok rest))
+      (wrote-next (begun g m) page (room g page) (good-begun g m (asked-fits request asked m accepts) rest good) (ok .size) (omega arith))
 
 -- ---- what is not read
 

@@ -3,5 +3,6 @@ pub mod Goodness
 pub mod Starts
 pub mod Collects
 pub mod Ways
+pub mod GuestAnswers
 pub mod GuestRules
 pub mod GuestPages

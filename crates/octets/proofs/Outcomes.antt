@@ -22,3 +22,8 @@ module _ {A : Type 0} where
   pub test-value : (t : Bool) (x y : A) (k : ℕ) → cond t (value x) (refused k) ≡ value y → (t ≡ true) × (x ≡ y)
   test-value true x y k e = (refl, value-same x y e)
   test-value false x y k e = absurd (value-not-refused y k (sym e))
+
+  -- and the refusal where it fails
+  pub test-refused : (t : Bool) (x : A) (j k : ℕ) → cond t (value x) (refused j) ≡ refused k → (t ≡ false) × (k ≡ j)
+  test-refused true x j k e = absurd (value-not-refused x k e)
+  test-refused false x j k e = (refl, refused-same k j (sym e))

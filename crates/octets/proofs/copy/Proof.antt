@@ -1,7 +1,6 @@
 -- `octets::copy` meets its contract: once the words are copied, the rest is.
 -- Assumes nothing.
 use mathlib.Core.Path.{_≡_}
-use native.Mathlib.Omega.{arith}
 use lib.ListN.{length}
 use borrow.Author.Needs.{needs}
 use Rattle.octets.proofs.Copies.{copied-start}

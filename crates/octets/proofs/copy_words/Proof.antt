@@ -1,12 +1,13 @@
 -- `octets::copy_words` meets its contract: dst is what it was, with src's first i octets at its start.
 -- Assumes nothing.
-use mathlib.Core.Path.{_≡_, refl, _∙_}
-use mathlib.Core.List.{List, _++_}
+use mathlib.Core.Path.{_≡_, refl, ap, _∙_}
+use mathlib.Core.List.{_++_}
 use Prim.Native.Nat.{ℕ, _+_, _≤_, _-_}
 use native.Mathlib.Omega.{arith}
 use lib.ListN.{length, take, drop}
-use lib.Seq.{length-sets}
+use lib.Seq.{sets, length-sets}
 use borrow.Author.Needs.{needs}
+use Rattle.octets.specs.Numbers.{octetsOf}
 use Rattle.octets.proofs.Copies.{copied-some}
 use Rattle.octets.proofs.Numbers.{octets-number}
 use Rattle.octets.proofs.copy_words.Statement.{statement}
@@ -29,8 +30,9 @@ loop-again c =
     let i : ℕ = loop .loop .i in
     let within : i + 8 ≤ length (a .src .now) = omega arith in
     let word = octets-number 8 (a .src .now) i (λ k. known .shared-slice-known .given k .fits) within in
-    let copied = copied-some 8 (a .dst .now) (a .src .now) (loop .loop .dst) i (omega arith) within (inv .0) in (
-      rw (write .write-u64 .ensures, read .read-u64 .ensures, word) copied,
+    let copied = copied-some 8 (a .dst .now) (a .src .now) (loop .loop .dst) i (omega arith) within (inv .0) in
+    let same : octetsOf 8 (read .read-u64 .result) ≡ take 8 (drop i (a .src .now)) = ap (octetsOf 8) (read .read-u64 .ensures) ∙ word in (
+      write .write-u64 .ensures ∙ ap (sets (loop .loop .dst) i) same ∙ copied,
       rw (write .write-u64 .ensures, length-sets) (inv .1),
       within,
     )

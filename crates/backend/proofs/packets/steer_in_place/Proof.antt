@@ -1,6 +1,6 @@
 -- `backend::packets::steer_in_place` meets its contract: the table is the listed number of entries, and can be asked.
 -- Assumes nothing.
-use mathlib.Core.Path.{_≡_, ap, _∙_}
+use mathlib.Core.Path.{_≡_, sym, ap, subst, _∙_}
 use Prim.Native.Nat.{ℕ}
 use native.Mathlib.Nat.{sub-zero}
 use native.Mathlib.Omega.{arith}
@@ -9,7 +9,7 @@ use borrow.Author.Needs.{needs}
 use Rattle.toeplitz.specs.Hash.{keyLength}
 use Rattle.messages.specs.Settings.{maxEntries}
 use Rattle.messages.proofs.Powers.{listed-parts}
-use Rattle.steering.specs.Steering.{steered}
+use Rattle.steering.specs.Steering.{Usable, steered}
 use Rattle.backend.proofs.Queues.{usable}
 use Rattle.backend.proofs.packets.steer_in_place.Statement.{statement}
 use Rattle.backend.proofs.packets.steer_in_place.Tie as tie
@@ -34,7 +34,7 @@ steer-requires c κs =
     let a = start d .args in
     let key-long : length (a .key .now) ≡ keyLength = search needs in
     let can = usable (a .key .now) (a .entries .now) (a .count) key-long (entries-long d) (start d .pre) in
-    rw (sub-zero (a .count)) can
+    subst (λ (n : ℕ). Usable (a .key .now) (take n (a .entries .now))) (sym (sub-zero (a .count))) can
 
 returns : tie.Need-returns
 returns c =
