@@ -7,7 +7,7 @@ set up with one queue, and one buffer of 4,160 octets, at its start all zero, wh
 import guest
 import ring
 from cases import digest, lines, program_files
-from event_cases import BUFFER, DISTANCES, TOP, WRONG_LENGTHS, generated, put
+from event_cases import BUFFER, DISTANCES, TOP, WRONG_LENGTHS, generated, put, random_start
 from event_cases import EVENT as EVENT_LINE
 from event_cases import SET_UP as SET_UP_LINE
 from event_cases import printed as host_printed
@@ -752,12 +752,8 @@ def random_sequences():
             yield case
 
 
-def random_count(number):
-    return [0, TOP - number % 64, 1024 - number % 64, number][number // 64 % 4]
-
-
 def random_steps(kept, numbers):
-    yield from begun(4, random_count(next(numbers)), random_count(next(numbers)))
+    yield from begun(4, random_start(numbers), random_start(numbers))
     for _ in range(16):
         state = kept["guest"]
         choice, a, b = next(numbers), next(numbers), next(numbers)

@@ -17,10 +17,11 @@ use Rattle.ring.specs.declared.Message.{Message}
 use Rattle.ring.specs.declared.Incoming.{Incoming}
 use Rattle.guest_messages.specs.Refusals.{notAnAck}
 use Rattle.guest_messages.specs.Reader.{Reading, readAck}
-use Rattle.frontend.specs.Guest.{maxAckPayload, idle, failed, incoming, withIncoming, withPhase, owes}
+use Rattle.frontend.specs.Guest.{maxAckPayload, idle, failed, incoming, withIncoming, owes}
 use Rattle.frontend.specs.Guest.{Good, acked, toldOf}
 use Rattle.frontend.specs.Calls.{After, Found, found, refusedWith, wroteOn}
 use Rattle.frontend.specs.Calls.{sizeWrong, messageOctets, Seen, part, judged, seen, doneWith, concluded, readOn, eventBy, eventOf, left}
+use Rattle.frontend.specs.Inner.{withPhase}
 use Rattle.frontend.specs.declared.Guest.{Guest}
 use Rattle.frontend.specs.declared.Refusal.the-variants.{AckRefused}
 use Rattle.frontend.specs.declared.GuestAnswer.{GuestAnswer}

@@ -67,7 +67,7 @@ guest-answer-determined a b e = sym (guest-answer-back a) ∙ ap guest-answer e 
 pub number-same : (j k : ℕ) → number j ≡ number k → j ≡ k
 number-same j k e = cc
 
-pub other-number : (j k : ℕ) → (j ≡ k → ⊥) → number j ≡ number k → ⊥
+other-number : (j k : ℕ) → (j ≡ k → ⊥) → number j ≡ number k → ⊥
 other-number j k differ e = differ (number-same j k e)
 
 pub acked-same : (q r : Reading) → acked q ≡ acked r → q ≡ r

@@ -71,11 +71,6 @@ withIncoming g i =
     guestOf (g .phase) (g .request) (g .length) (g .written) (g .«req_prod») (i .message .header) (i .message .payload)
     (i .message .taken) (i .cons)
 
--- and in another phase
-abbrev pub withPhase : Guest → ℕ → Guest
-withPhase g phase =
-    guestOf phase (g .request) (g .length) (g .written) (g .«req_prod») (g .header) (g .payload) (g .taken) (g .«rsp_cons»)
-
 -- whether octets of the request are owed
 abbrev pub owes : Guest → Bool
 owes g = ltb (g .written) (g .length)

@@ -13,7 +13,7 @@ use Rattle.ring.specs.declared.Incoming.{Incoming}
 use Rattle.ring.specs.declared.Outgoing.{Outgoing}
 use Rattle.guest_messages.specs.Refusals.{notAnAck}
 use Rattle.guest_messages.specs.Reader.{status, statusAndFlags}
-use Rattle.frontend.specs.Guest.{incoming, withIncoming, withPhase, number, pending, requestOwed, refusalNumber, toldOf}
+use Rattle.frontend.specs.Guest.{guestOf, incoming, withIncoming, number, pending, requestOwed, refusalNumber, toldOf}
 use Rattle.frontend.specs.Calls.{Found, found, readied, Seen, part, judged, readOn, left}
 use Rattle.frontend.specs.declared.Guest.{Guest}
 use Rattle.frontend.specs.declared.GuestAnswer.{GuestAnswer}
@@ -53,6 +53,11 @@ pub record WritesOn (o : Outgoing) (page : List ℕ) (rspCons room : ℕ) (r : G
   pub side : next ≡ sent o (fitting o room)
   pub octets : left ≡ countedByGuest (put requestsAt page (o .prod) (sentOctets o (fitting o room))) rspCons (next .prod)
   pub answer : toldOf r ≡ number (cond (ltb (next .written) (next .length)) requestOwed pending)
+
+-- the guest in another phase
+abbrev pub withPhase : Guest → ℕ → Guest
+withPhase g phase =
+    guestOf phase (g .request) (g .length) (g .written) (g .«req_prod») (g .header) (g .payload) (g .taken) (g .«rsp_cons»)
 
 -- the ack read by any guest with this reading side, in this phase, whose request has this type
 abbrev pub Collects : ℕ → ℕ → ℕ → List ℕ → ℕ → Incoming → GuestAnswer → ℕ → Incoming → List ℕ → Type 0

@@ -12,9 +12,9 @@ use Rattle.ring.specs.Reading.{incomingOf}
 use Rattle.ring.specs.Writing.{outgoingOf}
 use Rattle.ring.specs.declared.Incoming.{Incoming}
 use Rattle.ring.specs.declared.Outgoing.{Outgoing}
-use Rattle.frontend.specs.Guest.{Good, guestOf, withOutgoing, withIncoming, withPhase}
+use Rattle.frontend.specs.Guest.{Good, guestOf, withOutgoing, withIncoming}
 use Rattle.frontend.specs.Calls.{Found, found, readOn, eventOf, left}
-use Rattle.frontend.specs.Inner.{findingOf}
+use Rattle.frontend.specs.Inner.{findingOf, withPhase}
 use Rattle.frontend.specs.declared.Guest.{Guest}
 use Rattle.frontend.specs.declared.GuestAnswer.{GuestAnswer}
 use Rattle.frontend.specs.declared.GuestAnswer.the-variants.{Pending, Refused}
