@@ -471,8 +471,9 @@ module _ (g : Guest) (page : List ℕ) (request : Outcome (List ℕ)) where
       -- then 13, a request begun while one is outstanding
       pub start-refuses-outstanding : (startOf request g page .answer ≡ number requestOutstanding) ↔ (Accepted g page × (g .phase ≡ outstanding))
       start-refuses-outstanding =
-          start-exactly (λ (t : Told). t ≡ number requestOutstanding) (λ (_ : After). g .phase ≡ outstanding) (other-number pageWrong requestOutstanding (omega arith))
-          (other-number requestsWrong requestOutstanding (omega arith)) (other-number responsesWrong requestOutstanding (omega arith))
+          start-exactly (λ (t : Told). t ≡ number requestOutstanding) (λ (_ : After). g .phase ≡ outstanding)
+          (other-number pageWrong requestOutstanding (omega arith)) (other-number requestsWrong requestOutstanding (omega arith))
+          (other-number responsesWrong requestOutstanding (omega arith))
           (other-number notAnAck requestOutstanding (omega arith)) (λ _ p f. omega arith) (λ p. (λ e. p, λ x. refl))
           (λ i. (
             λ e. absurd (started-refuses request g page (room g page) requestOutstanding (omega arith)
