@@ -3,6 +3,7 @@
 use mathlib.Core.List.{[], _∷_}
 use types.Run.{miss}
 use borrow.Author.Needs.{needs}
+use Rattle.guest_messages.specs.Writer.{setFlagsMessage}
 use Rattle.frontend.specs.declared.GuestAnswer.{GuestAnswer}
 use Rattle.frontend.specs.declared.Refusal.the-variants.{ValueRefused}
 use Rattle.frontend.proofs.Goodness.{short-set-flags}
@@ -14,8 +15,10 @@ returns : tie.Need-returns
 returns c =
     let write = c .before in
     let room = write .before .before .before in
-    let flags = room .before .before .before .before .before .before .before .args .flags in
-    starts-refused _ _ _ _ _ (room .before .before .ready .ensures) _ (room .readiness2 .given .1) _ _ _ _ ValueRefused
+    let a = room .before .before .before .before .before .before .before .args in
+    let flags = a .flags in
+    starts-refused _ _ _ _ _ (room .before .before .ready .ensures) _ (room .readiness2 .given .1)
+    (a .request .now) (a .size .now) (a .written .now) (setFlagsMessage flags) ValueRefused
     (write .write-set-flags .result) _ (search needs) (short-set-flags flags) (only-set-flags flags)
     (λ n l. miss (1 ∷ 2 ∷ 3 ∷ []) 0 tt (rw l at (c .match2 .keys2))) (write .write-set-flags .ensures)
 

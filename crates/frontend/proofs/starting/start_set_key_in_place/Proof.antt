@@ -3,6 +3,7 @@
 use mathlib.Core.List.{[], _∷_}
 use types.Run.{miss}
 use borrow.Author.Needs.{needs}
+use Rattle.guest_messages.specs.Writer.{setKeyMessage}
 use Rattle.frontend.specs.declared.GuestAnswer.{GuestAnswer}
 use Rattle.frontend.specs.declared.Refusal.the-variants.{KeyRefused}
 use Rattle.frontend.proofs.Goodness.{short-set-key}
@@ -14,8 +15,10 @@ returns : tie.Need-returns
 returns c =
     let write = c .before in
     let room = write .before .before .before in
-    let key = room .before .before .before .before .before .before .before .before .args .key .now in
-    starts-refused _ _ _ _ _ (room .before .before .ready .ensures) _ (room .readiness2 .given .1) _ _ _ _ KeyRefused
+    let a = room .before .before .before .before .before .before .before .before .args in
+    let key = a .key .now in
+    starts-refused _ _ _ _ _ (room .before .before .ready .ensures) _ (room .readiness2 .given .1)
+    (a .request .now) (a .size .now) (a .written .now) (setKeyMessage key) KeyRefused
     (write .write-set-key .result) _ (search needs) (short-set-key key) (only-set-key key)
     (λ n l. miss (1 ∷ 2 ∷ 3 ∷ []) 0 tt (rw l at (c .match2 .keys2))) (write .write-set-key .ensures)
 

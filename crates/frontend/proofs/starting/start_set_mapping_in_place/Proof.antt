@@ -3,6 +3,7 @@
 use mathlib.Core.List.{[], _∷_}
 use types.Run.{miss}
 use borrow.Author.Needs.{needs}
+use Rattle.guest_messages.specs.Writer.{setMappingMessage}
 use Rattle.frontend.specs.declared.GuestAnswer.{GuestAnswer}
 use Rattle.frontend.specs.declared.Refusal.the-variants.{ValueRefused}
 use Rattle.frontend.proofs.Goodness.{short-set-mapping}
@@ -14,8 +15,10 @@ returns : tie.Need-returns
 returns c =
     let write = c .before in
     let room = write .before .before .before in
-    let entries = room .before .before .before .before .before .before .before .before .args .entries .now in
-    starts-refused _ _ _ _ _ (room .before .before .ready .ensures) _ (room .readiness2 .given .1) _ _ _ _ ValueRefused
+    let a = room .before .before .before .before .before .before .before .before .args in
+    let entries = a .entries .now in
+    starts-refused _ _ _ _ _ (room .before .before .ready .ensures) _ (room .readiness2 .given .1)
+    (a .request .now) (a .size .now) (a .written .now) (setMappingMessage entries) ValueRefused
     (write .write-set-mapping .result) _ (search needs) (short-set-mapping entries) (only-set-mapping entries)
     (λ n l. miss (1 ∷ 2 ∷ 3 ∷ []) 0 tt (rw l at (c .match2 .keys2))) (write .write-set-mapping .ensures)
 
