@@ -30,15 +30,17 @@ typedef struct kind {
     uint8_t first;
     size_t protocol_at;
     uint8_t protocol;
+    uint8_t fragment; /* octet 6 of an IPv4 packet; octet 7 is 0 */
     size_t input_at;
     size_t input_length; /* 0: no hash */
 } kind;
 
 static const kind kinds[] = {
-    {"IPv4 TCP", 0x45, 9, 6, 12, 12},
-    {"IPv6 TCP", 0x60, 6, 6, 8, 36},
-    {"IPv4, not TCP", 0x45, 9, 17, 12, 8},
-    {"not IP", 0x08, 9, 6, 0, 0},
+    {"IPv4 TCP", 0x45, 9, 6, 0x40, 12, 12},
+    {"IPv6 TCP", 0x60, 6, 6, 0, 8, 36},
+    {"IPv4, not TCP", 0x45, 9, 17, 0x40, 12, 8},
+    {"IPv4 fragment", 0x45, 9, 6, 0x20, 12, 8},
+    {"not IP", 0x08, 9, 6, 0, 0, 0},
 };
 #define KINDS (sizeof kinds / sizeof *kinds)
 
@@ -69,6 +71,8 @@ static void make_packet(uint8_t *packet, const kind *kind)
 {
     random_octets(packet, PACKET);
     packet[0] = kind->first;
+    packet[6] = kind->fragment;
+    packet[7] = 0;
     packet[kind->protocol_at] = kind->protocol;
 }
 
@@ -90,6 +94,7 @@ static void see_packets_agree(void)
             uint8_t packet[PACKET];
             make_packet(packet, &kinds[random_below(KINDS)]);
             packet[0] ^= random_below(4) == 0 ? (uint8_t)next_random() : 0;
+            packet[6 + random_below(2)] ^= random_below(4) == 0 ? (uint8_t)(1u << random_below(8)) : 0;
             see_packet_agree(packet, random_below(2) == 0 ? random_below(PACKET + 1) : PACKET);
         }
     }

@@ -167,7 +167,7 @@ uint32_t plain_steer(const zwerfen_interface *interface, const uint8_t *packet, 
     *queue = 0;
     if (packet_length >= 20 && packet[0] == 0x45) {
         plain_type = ZWERFEN_IPV4, tcp_type = ZWERFEN_IPV4_TCP, start = 12, length = 8;
-        tcp = packet_length >= 24 && packet[9] == PROTOCOL_TCP;
+        tcp = packet_length >= 24 && packet[9] == PROTOCOL_TCP && ((packet[6] & 0x3F) | packet[7]) == 0;
     } else if (packet_length >= 40 && packet[0] >> 4 == 6) {
         plain_type = ZWERFEN_IPV6, tcp_type = ZWERFEN_IPV6_TCP, start = 8, length = 32;
         tcp = packet_length >= 44 && packet[6] == PROTOCOL_TCP;

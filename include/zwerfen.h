@@ -187,7 +187,8 @@ uint32_t zwerfen_event(zwerfen_interface *interface, uint8_t *page, size_t page_
 
 /*
  * Type, hash and queue of an IP packet under the settings of the interface: one question, so that the three belong together.
- * Every queue is below the number of queues in operation. Nothing is copied and nothing is refused.
+ * Every queue is below the number of queues in operation. Nothing is copied and nothing is refused. A fragment of an IPv4
+ * datagram goes by its addresses alone, as ZWERFEN_IPV4, so that all fragments of a datagram go to one queue.
  *
  * Answers ZWERFEN_HASHED, with all three; or ZWERFEN_UNHASHED, with *queue 0, and *hash_type and *hash as they were.
  */

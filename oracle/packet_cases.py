@@ -15,6 +15,9 @@ SETTINGS, PACKET = range(2)
 LISTED = [1, 2, 4, 8, 16, 32, 64, 128]
 UDP = 17
 
+# Octets 6 and 7 of an IPv4 packet that is no fragment: the don't-fragment bit alone, as most senders write them.
+WHOLE = {6: 0x40, 7: 0}
+
 # Lengths around 20, 24, 40 and 44, around the octets that are looked at, and some that end in the hash input.
 LENGTHS = [0, 1, 6, 7, 9, 10, 12, 16, 19, 20, 21, 22, 23, 24, 25, 30, 39, 40, 41, 42, 43, 44, 45, 60]
 
@@ -33,11 +36,16 @@ def tcp_rest():
     return seeded("sequence", 8) + bytes([0x50, 0x10]) + bytes([0x20, 0, 0, 0, 0, 0])
 
 
+def ipv4_header(addresses, behind, field, protocol):
+    """An IPv4 header without options, before so many octets; `field` is the 16 bits of fragment flags and offset."""
+    start = bytes([0x45, 0]) + (20 + behind).to_bytes(2, "big")
+    return start + bytes([0x12, 0x34]) + field.to_bytes(2, "big") + bytes([64, protocol, 0, 0]) + addresses
+
+
 def ipv4_packet(data, protocol):
-    """An IPv4 header without options around two addresses, and what follows it."""
+    """An IPv4 header around two addresses, and what follows it."""
     addresses, behind = data[:8], data[8:] + tcp_rest()
-    start = bytes([0x45, 0]) + (20 + len(behind)).to_bytes(2, "big")
-    return start + bytes([0x12, 0x34, 0x40, 0, 64, protocol, 0, 0]) + addresses + behind
+    return ipv4_header(addresses, len(behind), 0x4000, protocol) + behind
 
 
 def ipv6_packet(data, protocol):
@@ -46,14 +54,15 @@ def ipv6_packet(data, protocol):
 
 
 def one_of_each(name):
-    """A packet of each kind, and TCP packets that end just before their ports do."""
+    """A packet of each kind, TCP packets that end just before their ports do, one with options, and a fragment."""
     yield shaped(f"{name} 0", 20, {0: 0x45, 9: UDP})
-    yield shaped(f"{name} 1", 24, {0: 0x45, 9: 6})
+    yield shaped(f"{name} 1", 24, {0: 0x45, 9: 6, **WHOLE})
     yield shaped(f"{name} 2", 40, {0: 0x61, 6: UDP})
     yield shaped(f"{name} 3", 44, {0: 0x6C, 6: 6})
-    yield shaped(f"{name} 4", 23, {0: 0x45, 9: 6})
+    yield shaped(f"{name} 4", 23, {0: 0x45, 9: 6, **WHOLE})
     yield shaped(f"{name} 5", 43, {0: 0x60, 6: 6})
-    yield shaped(f"{name} 6", 44, {0: 0x46, 6: 6, 9: 6})
+    yield shaped(f"{name} 6", 44, {0: 0x46, 9: 6, **WHOLE})
+    yield shaped(f"{name} 7", 24, {0: 0x45, 9: 6, 6: 0x20, 7: 0})
 
 
 def settings_case(flags, key, table):
@@ -91,6 +100,10 @@ def agree_with_papers():
     assert packets.steer(worked, ipv4_packet(data, UDP)) == (0, 0x01030107, 1)
     data = bytes(35) + b"\x01"
     assert packets.steer(worked, ipv6_packet(data, 6)) == (3, 0x92129313, 1)
+    # fragments with the same addresses get the same answer, of the plain type
+    for some in (list(datagram()), list(strangers("", seeded("strangers", 8), FRAGMENTS))):
+        answers = {packets.steer(worked, packet) for packet in some}
+        assert len(some) > 2 and len(answers) == 1 and answers.pop()[0] == 0
     published = settings_of(settings_case(15, RSS_KEY, [0])[1])
     for packet, value in published_packets():
         assert packets.steer(published, packet)[1] == value, packet
@@ -110,34 +123,77 @@ def published_cases():
 
 
 def length_cases():
-    """Both families at every length, TCP or not by the octet that counts, with TCP's number in the other's place."""
+    """Both families at every length, TCP or not by the octet that counts, with TCP's number in IPv4's place for IPv6. In
+    IPv6's place it would make an IPv4 packet a fragment; fragment_cases have that."""
     for first in (0x45, 0x60):
-        mine, other = (9, 6) if first == 0x45 else (6, 9)
         for protocol in (6, UDP):
-            places = {0: first, other: 23 - protocol, mine: protocol}
+            places = {0: first, 9: protocol, **WHOLE} if first == 0x45 else {0: first, 6: protocol, 9: 23 - protocol}
             key = seeded(f"lengths {first} {protocol}", 40)
             some = [shaped(f"length {first} {protocol} {length}", length, places) for length in LENGTHS]
             yield from under(15, key, seeded_below("lengths", 32, 64), some)
-    long = [shaped("long", 1500, {0: 0x45, 9: 6}), shaped("long too", 1500, {0: 0x6F, 6: 6})]
+    long = [shaped("long", 1500, {0: 0x45, 9: 6, **WHOLE}), shaped("long too", 1500, {0: 0x6F, 6: 6})]
     yield from under(15, seeded("long key", 40), seeded_below("long", 64, 64), long)
 
 
 def first_octet_cases():
-    """Other first octets than 45 and 6x, in packets that are else TCP for both families."""
+    """Other first octets than 45 and 6x, in packets that are else TCP for IPv4, or long enough and TCP for IPv6."""
     firsts = [0x00, 0x04, 0x05, 0x06, 0x40, 0x44, 0x45, 0x46, 0x4F, 0x54, 0x55, 0x56, 0x5F]
     firsts += list(range(0x60, 0x70)) + [0x70, 0x76, 0xC5, 0xE0, 0xFF]
     yield settings_case(15, seeded("firsts", 40), seeded_below("firsts", 16, 64))
     for first in firsts:
-        for length in (24, 44):
-            yield PACKET, shaped(f"first {first} {length}", length, {0: first, 6: 6, 9: 6})
+        for length, places in ((24, WHOLE), (44, WHOLE), (44, {6: 6})):
+            yield PACKET, shaped(f"first {first} {length}", length, {0: first, 9: 6, **places})
 
 
 def protocol_cases():
     yield settings_case(15, seeded("protocols", 40), seeded_below("protocols", 16, 64))
     for protocol in (0, 1, 4, 5, 6, 7, 14, 17, 22, 58, 134, 255):
         for length in (24, 44):
-            yield PACKET, shaped(f"protocol {protocol} {length}", length, {0: 0x45, 6: 6, 9: protocol})
+            yield PACKET, shaped(f"protocol {protocol} {length}", length, {0: 0x45, 9: protocol, **WHOLE})
         yield PACKET, shaped(f"protocol {protocol}", 44, {0: 0x63, 6: protocol, 9: 6})
+
+
+def datagram():
+    """The three fragments of a TCP datagram, as a sender cuts it: 40 octets behind each header; offsets count eights."""
+    addresses = seeded("datagram addresses", 8)
+    content = seeded("source port", 2) + b"\x01\xbb" + tcp_rest() + seeded("content", 80)
+    for start in range(0, len(content), 40):
+        part = content[start : start + 40]
+        more = 0x2000 if start + 40 < len(content) else 0
+        yield ipv4_header(addresses, len(part), more + start // 8, 6) + part
+
+
+def strangers(name, addresses, fields):
+    """Packets with these addresses and fragment fields that have nothing else in common."""
+    for n, field in enumerate(fields):
+        length = 20 + n * 7 % 45
+        packet = bytearray(shaped(f"{name} {n}", length, {0: 0x45, 6: field >> 8, 7: field & 0xFF}))
+        packet[9] = [6, UDP, 1][n % 3]
+        packet[12:20] = addresses
+        yield bytes(packet)
+
+
+# Each bit of the field alone, none, all, and those that tell whole packets from fragments only together.
+FIELDS = [1 << bit for bit in range(16)]
+FIELDS += [0, 0xFFFF, 0x3FFF, 0x1FFF, 0xC000, 0x6000, 0xA000, 0xE000, 0x2001, 0x4001, 0x8100, 0xD000, 0xC0FF, 0x5FFF]
+FRAGMENTS = [field for field in FIELDS if field not in (0, 0x4000, 0x8000, 0xC000)]
+
+
+def fragment_cases():
+    """IPv4 packets with each field, TCP or not, IPv6 packets with the same octets, and fragments with the same addresses."""
+    table = seeded_below("fragments", 64, 64)
+    yield settings_case(15, seeded("fragments", 40), table)
+    for field in FIELDS:
+        places = {6: field >> 8, 7: field & 0xFF}
+        for length in (23, 24, 60):
+            yield PACKET, shaped(f"field {field} {length}", length, {0: 0x45, 9: 6, **places})
+        yield PACKET, shaped(f"field {field}", 44, {0: 0x45, 9: UDP, **places})
+        yield PACKET, shaped(f"field {field} 6", 44, {0: 0x60, **places})
+        yield PACKET, shaped(f"field {field} TCP", 44, {0: 0x60, **places, 6: 6})
+    for flags in (15, 1, 2, 3, 14):
+        yield from under(flags, seeded("datagram", 40), table, datagram())
+        addresses = seeded(f"strangers {flags}", 8)
+        yield from under(flags, seeded("strangers", 40), table, strangers(f"strange {flags}", addresses, FRAGMENTS))
 
 
 def flag_cases():
@@ -193,6 +249,8 @@ def random_cases():
             places = {6: [6, 6, 0, 17][protocol % 4], 9: [6, 1, 6, 255][protocol % 4]}
             if first % 5:
                 places[0] = [0x45, 0x45, 0x60, 0x6A][first % 4]
+                if first % 4 < 2:
+                    places.update({6: [0, 0x40, 0x80, 0x20][length % 4], 7: [0, 0, 0, 1][length // 4 % 4]})
             yield PACKET, shaped(f"octets {n} {m}", length, places)
 
 
@@ -203,6 +261,7 @@ def all_cases():
         length_cases,
         first_octet_cases,
         protocol_cases,
+        fragment_cases,
         flag_cases,
         table_cases,
         key_cases,

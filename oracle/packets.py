@@ -1,6 +1,6 @@
 """Packets, rule by rule, for people who do not read proofs: what kind a packet is, its hash type and hash, its queue.
 
-Everything here is read off document 01 ("The hash and the queue"). It is written to be read and to be slow: it shares
+Everything here is read off document 01 ("The hash and the queue"), with the rule on fragments added later. It is written to be read and to be slow: it shares
 no code and no method with the proved backend, and its answers are what the backend's are compared with. The settings
 are those of messages.py.
 """
@@ -13,11 +13,19 @@ TCP = 6
 USES = {"none": [], "ipv4": [0], "ipv4_tcp": [1, 0], "ipv6": [2], "ipv6_tcp": [3, 2]}
 
 
+def is_fragment(packet):
+    """RFC 791 draws octets 6 and 7 of an IPv4 packet as one row: a reserved bit, don't fragment, more fragments, and 13
+    bits of fragment offset. A fragment has more of them behind it, or an offset."""
+    row = "".join(f"{octet:08b}" for octet in packet[6:8])
+    _reserved, _dont_fragment, more_fragments, offset = row[0], row[1], row[2], row[3:]
+    return more_fragments == "1" or "1" in offset
+
+
 def look(packet):
     """The packet's kind, and the offsets at which its addresses begin, at which they end, which is where the ports
     begin, and at which the hash input of its own kind ends."""
     if len(packet) >= 20 and packet[0] == 0x45:
-        if len(packet) >= 24 and packet[9] == TCP:
+        if len(packet) >= 24 and packet[9] == TCP and not is_fragment(packet):
             return "ipv4_tcp", 12, 20, 24
         return "ipv4", 12, 20, 20
     if len(packet) >= 40 and packet[0] >> 4 == 6:

@@ -229,6 +229,20 @@ static struct packet tcp_packet(const char *name, bool is_ipv6, const uint8_t *s
     return packet;
 }
 
+/* An IPv4 packet as a fragment of its datagram: how many eights of octets before it, and whether more come behind it. */
+static struct packet fragment_of(const struct packet *whole, const char *name, uint16_t eights, bool more)
+{
+    static const size_t content_at = 20;
+    struct packet packet = *whole;
+    packet.name = name;
+    packet.octets[6] = (uint8_t)((more ? 0x20 : 0) | eights >> 8);
+    packet.octets[7] = (uint8_t)eights;
+    if (eights > 0) { /* only the first has the ports */
+        memset(packet.octets + content_at, 'z', packet.length - content_at);
+    }
+    return packet;
+}
+
 /* The first octets of an ARP request, which is no IP packet. */
 static struct packet arp_request(const char *name)
 {
@@ -273,6 +287,18 @@ static bool directions_meet(const zwerfen_interface *host, const struct packet *
     return meet;
 }
 
+/* Steers the fragments of a packet's datagram: they have the same addresses, so they go to one queue. */
+static void steer_fragments(const zwerfen_interface *host, const struct packet *whole)
+{
+    struct packet first = fragment_of(whole, "  its first fragment, with the ports", 0, true);
+    struct packet last = fragment_of(whole, "  its last fragment, without", 185, false);
+    struct steering steering_first = print_steering(host, &first);
+    struct steering steering_last = print_steering(host, &last);
+    must(steering_first.hash_type == ZWERFEN_IPV4 && steering_last.hash_type == ZWERFEN_IPV4, "fragments are not TCP");
+    must(steering_first.hash == steering_last.hash && steering_first.queue == steering_last.queue,
+         "fragments of one datagram go to different queues");
+}
+
 /* Steers two conversations and something else, under a key that lets all conversations meet or none of these two. */
 static void steer_packets(const zwerfen_interface *host, const char *key_name, bool expected_to_meet)
 {
@@ -289,6 +315,7 @@ static void steer_packets(const zwerfen_interface *host, const char *key_name, b
 
     printf("\nPackets under the key %-20s %-8s  %-8s  queue\n", key_name, "type", "hash");
     must(directions_meet(host, &there, &back) == expected_to_meet, "IPv4 under the key %s", key_name);
+    steer_fragments(host, &back);
     must(directions_meet(host, &there_6, &back_6) == expected_to_meet, "IPv6 under the key %s", key_name);
     struct steering steering = print_steering(host, &arp);
     must(steering.answer == ZWERFEN_UNHASHED && steering.queue == 0, "what is no IP packet goes to queue 0");

@@ -88,7 +88,7 @@ impl Random {
         self.payload(length)
     }
 
-    /// A packet of 0 to 80 octets or a longer one: IPv4, IPv6 or nearly so, TCP or not, cut anywhere.
+    /// A packet of 0 to 80 octets or a longer one: IPv4, IPv6 or nearly so, TCP or not, a fragment or not, cut anywhere.
     pub fn packet(&mut self) -> Vec<u8> {
         let length = if self.one_in(32) { self.between(81, 9000) } else { self.below(81) };
         let mut packet = self.octets(length);
@@ -97,12 +97,24 @@ impl Random {
         let any = self.next() as u8;
         let first = self.pick(&[0x45, 0x45, 0x45, version_6, version_6, version_6, nearly, any]);
         let protocols = [6, 6, 6, 0, 1, 5, 7, 17, 58, 0x86];
-        for (at, octet) in [(0, first), (6, self.pick(&protocols)), (9, self.pick(&protocols))] {
+        let [upper, lower] = self.fragment_field().to_be_bytes();
+        let sixth = if first >> 4 == 6 { self.pick(&protocols) } else { upper };
+        for (at, octet) in [(0, first), (6, sixth), (7, lower), (9, self.pick(&protocols))] {
             if packet.len() > at {
                 packet[at] = octet;
             }
         }
         packet
+    }
+
+    /// The fragment field of an IPv4 packet: that of a whole one half of the time, else with one bit more, or any.
+    fn fragment_field(&mut self) -> u16 {
+        let whole = self.pick(&[0, 0x4000, 0x8000, 0xc000]);
+        match self.below(4) {
+            0 => whole | 1 << self.below(14),
+            1 => self.next() as u16,
+            _ => whole,
+        }
     }
 
     /// The length of a buffer for a message: about as long as that, or any other.

@@ -111,6 +111,11 @@ pub fn set_count(page: &mut [u8], at: usize, count: u32) {
     page[at..at + 4].copy_from_slice(&count.to_le_bytes());
 }
 
+/// The 16 bits of an IPv4 packet with its fragment flags and offset, which are not little-endian.
+pub fn fragment_field(packet: &[u8]) -> u16 {
+    u16::from_be_bytes([packet[6], packet[7]])
+}
+
 /// An octet with count c stands at c modulo 1,024 in its area; these begin with this count.
 pub fn put_octets(page: &mut [u8], area: usize, from: u32, octets: impl Iterator<Item = u8>) {
     for (i, octet) in octets.enumerate() {
@@ -362,9 +367,16 @@ pub trait Rules {
         packet.len() >= 40 && packet[0] >> 4 == 6
     }
 
-    /// A packet is TCP if its protocol, octet 9 of IPv4 and octet 6 of IPv6, is 6 and both ports are there.
+    /// An IPv4 packet is a fragment if any of the low 14 bits of octets 6 and 7 is set: behind the reserved bit and the
+    /// don't-fragment bit, which go out here, are the more-fragments bit and the fragment offset (RFC 791).
+    fn is_fragment(&self, packet: &[u8]) -> bool {
+        fragment_field(packet) << 2 != 0
+    }
+
+    /// A packet is TCP if its protocol, octet 9 of IPv4 and octet 6 of IPv6, is 6 and both ports are there; a fragment of
+    /// IPv4 is not.
     fn is_tcp(&self, packet: &[u8]) -> bool {
-        self.is_ipv4(packet) && packet[9] == 6 && packet.len() >= 24
+        self.is_ipv4(packet) && packet[9] == 6 && packet.len() >= 24 && !self.is_fragment(packet)
             || self.is_ipv6(packet) && packet[6] == 6 && packet.len() >= 44
     }
 

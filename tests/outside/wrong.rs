@@ -161,6 +161,36 @@ wrong_rules! {
             packet.len() > 44 && Written.is_tcp(packet)
         }
     }
+    Steer, "an IPv4 packet is typed by octet 9 alone": {
+        fn is_fragment(&self, _packet: &[u8]) -> bool {
+            false
+        }
+    }
+    Steer, "the first fragment is TCP": {
+        fn is_fragment(&self, packet: &[u8]) -> bool {
+            fragment_field(packet) & 0x1fff != 0
+        }
+    }
+    Steer, "the don't-fragment bit is taken for more-fragments": {
+        fn is_fragment(&self, packet: &[u8]) -> bool {
+            fragment_field(packet) & 0x5fff != 0
+        }
+    }
+    Steer, "the fragment offset has no top bit": {
+        fn is_fragment(&self, packet: &[u8]) -> bool {
+            fragment_field(packet) & 0x2fff != 0
+        }
+    }
+    Steer, "the fragment offset has no lowest bit": {
+        fn is_fragment(&self, packet: &[u8]) -> bool {
+            fragment_field(packet) & 0x3ffe != 0
+        }
+    }
+    Steer, "the fragment field is little-endian": {
+        fn is_fragment(&self, packet: &[u8]) -> bool {
+            fragment_field(packet).swap_bytes() & 0x3fff != 0
+        }
+    }
     Steer, "the queue follows from the hash without its lowest bit": {
         fn steer(&self, interface: &Interface, packet: &[u8]) -> Option<Steered> {
             let mut steered = Written.steer(interface, packet)?;

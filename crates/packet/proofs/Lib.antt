@@ -1,3 +1,4 @@
 -- The laws of `packet`.
 pub mod Looks
+pub mod Fragments
 pub mod Theorems

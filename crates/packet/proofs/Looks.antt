@@ -1,17 +1,26 @@
--- What is found of a packet that has passed the tests of a kind.
+-- What is told of a packet that has passed the tests of a kind.
 -- Assumes nothing.
 use mathlib.Core.Path.{_≡_, refl}
 use mathlib.Core.List.{List}
-use mathlib.Core.Bool.{true, false}
+use mathlib.Core.Bool.{true, false, not}
 use Prim.Native.Nat.{ℕ}
-use Rattle.packet.specs.Packets.{isIpv4, isIpv6, isTcp, kindOf, none, typed, lookAt}
+use Rattle.packet.specs.Packets.{isIpv4, isIpv6, isTcp, isFragment, isIpv4Tcp, kindOf, none, typed, lookAt}
 
 module _ (p : List ℕ) where
-  pub found-ipv4-tcp : isIpv4 p ≡ true → isTcp 9 24 p ≡ true → typed 1 12 20 24 ≡ lookAt (kindOf p)
+  -- with octet 9 and the length of TCP, a packet is TCP unless it is a fragment
+  pub tcp-unless-fragment : isTcp 9 24 p ≡ true → not (isFragment p) ≡ isIpv4Tcp p
+  unfolding isIpv4Tcp
+  tcp-unless-fragment tcp = rw tcp refl
+
+  pub not-tcp : isTcp 9 24 p ≡ false → false ≡ isIpv4Tcp p
+  unfolding isIpv4Tcp
+  not-tcp plain = rw plain refl
+
+  pub found-ipv4-tcp : isIpv4 p ≡ true → isIpv4Tcp p ≡ true → typed 1 12 20 24 ≡ lookAt (kindOf p)
   unfolding kindOf lookAt
   found-ipv4-tcp four tcp = rw (four, tcp) refl
 
-  pub found-ipv4 : isIpv4 p ≡ true → isTcp 9 24 p ≡ false → typed 0 12 20 20 ≡ lookAt (kindOf p)
+  pub found-ipv4 : isIpv4 p ≡ true → isIpv4Tcp p ≡ false → typed 0 12 20 20 ≡ lookAt (kindOf p)
   unfolding kindOf lookAt
   found-ipv4 four plain = rw (four, plain) refl
 

@@ -11,13 +11,13 @@ use lib.Seq.{length-take-le}
 use borrow.Author.Tests.{leb-true}
 use Rattle.octets.proofs.Truth.{both-true}
 use Rattle.toeplitz.specs.TwoWay.{lastType, inputSize}
-use Rattle.packet.specs.Packets.{PacketType, noType, hashType, isIpv4, isIpv6, isTcp, kindOf, inputStart, inputOf}
+use Rattle.packet.specs.Packets.{PacketType, noType, hashType, isIpv4, isIpv6, isTcp, isIpv4Tcp, kindOf, inputStart, inputOf}
 use Rattle.packet.specs.Packets.{Look, none, typed, lookOf}
 use Rattle.packet.specs.declared.Found.{Found}
 use Rattle.packet.specs.declared.Found.the-variants.{NotIp, Ip}
 
 module _ (p : List ℕ) where
-  ipv4-long : isIpv4 p ≡ true → 20 ≤ length p
+  pub ipv4-long : isIpv4 p ≡ true → 20 ≤ length p
   unfolding isIpv4
   ipv4-long e = leb-true _ _ (both-true _ _ .0 e .0)
 
@@ -25,9 +25,13 @@ module _ (p : List ℕ) where
   unfolding isIpv6
   ipv6-long e = leb-true _ _ (both-true _ _ .0 e .0)
 
-  tcp-long : (at least : ℕ) → isTcp at least p ≡ true → least ≤ length p
+  pub tcp-long : (at least : ℕ) → isTcp at least p ≡ true → least ≤ length p
   unfolding isTcp
   tcp-long at least e = leb-true _ _ (both-true _ _ .0 e .0)
+
+  ipv4-tcp-long : isIpv4Tcp p ≡ true → 24 ≤ length p
+  unfolding isIpv4Tcp
+  ipv4-tcp-long e = tcp-long 9 24 (both-true _ _ .0 e .0)
 
   -- what holds of no type, and of each type where the packet is long enough for it, holds of the kind
   module _ (P : PacketType → Type 0) where
@@ -46,7 +50,7 @@ module _ (p : List ℕ) where
     unfolding kindOf
     kind-cases neither zeroth first second third =
         by-version (isIpv4 p) (isIpv6 p) _ _
-        (λ e. by-tcp 0 (isTcp 9 24 p) (zeroth (ipv4-long e)) (λ q. first (tcp-long 9 24 q)))
+        (λ e. by-tcp 0 (isIpv4Tcp p) (zeroth (ipv4-long e)) (λ q. first (ipv4-tcp-long q)))
         (λ e. by-tcp 2 (isTcp 6 44 p) (second (ipv6-long e)) (λ q. third (tcp-long 6 44 q)))
         neither
 

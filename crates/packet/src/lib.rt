@@ -1,8 +1,9 @@
 // What an IP packet is, by its length and a few of its octets, and where its hash input stands. The packet is a
 // stranger's: only what its length covers is looked at.
 ghost use mathlib.Core.Path.{_≡_};
-ghost use Prim.Native.Nat.{_<_};
-ghost use Rattle.packet.specs.Packets.{isIpv4, isIpv6, isTcp, kindOf, lookAt, lookOf};
+ghost use Prim.Native.Nat.{_+_, _*_, _≤_, _<_};
+ghost use lib.ListN.{length};
+ghost use Rattle.packet.specs.Packets.{isIpv4, isIpv6, isTcp, isFragment, isIpv4Tcp, kindOf, lookAt, lookOf};
 
 // The hash types by their numbers.
 pub const IPV4: u8 = 0;
@@ -34,6 +35,14 @@ const IPV6_PROTOCOL: usize = 6;
 
 const TCP: u8 = 6;
 
+// Where the fragment field of IPv4 stands, and its bits that make a fragment. Above these are the don't-fragment bit and a
+// reserved bit, which play no part.
+const FRAGMENT_FIELD: usize = 6;
+
+const MORE_FRAGMENTS: u16 = 0x2000;
+
+const FRAGMENT_OFFSET: u16 = 0x1FFF;
+
 // Where the source address begins, and where the destination address ends and the ports begin.
 const IPV4_SOURCE: usize = 12;
 
@@ -61,7 +70,7 @@ pub fn look(packet: &[u8]) -> Found
     ensures { λ r. ⌜ lookOf r ≡ lookAt (kindOf (now (packet .entry))) ⌝ }
 {
     if is_ipv4(packet) {
-        if is_tcp(packet, IPV4_PROTOCOL, IPV4_TCP_LEAST) {
+        if is_ipv4_tcp(packet) {
             return ip(IPV4_TCP, IPV4_SOURCE, IPV4_PORTS, IPV4_TCP_LEAST);
         }
         return ip(IPV4, IPV4_SOURCE, IPV4_PORTS, IPV4_PORTS);
@@ -104,4 +113,28 @@ fn is_tcp(packet: &[u8], at: usize, least: usize) -> bool
     ensures { λ r. ⌜ r ≡ isTcp at least (now (packet .entry)) ⌝ }
 {
     packet.len() >= least && packet[at] == TCP
+}
+
+// Whether an IPv4 packet is TCP. A fragment is not: only the first one of a datagram has the ports, and all of them are to
+// go to one queue.
+fn is_ipv4_tcp(packet: &[u8]) -> bool
+    ensures { λ r. ⌜ r ≡ isIpv4Tcp (now (packet .entry)) ⌝ }
+{
+    is_tcp(packet, IPV4_PROTOCOL, IPV4_TCP_LEAST) && !is_fragment(packet)
+}
+
+// Whether an IPv4 packet is a fragment of a datagram.
+fn is_fragment(packet: &[u8]) -> bool
+    requires { ⌜ 8 ≤ length (now packet) ⌝ }
+    ensures { λ r. ⌜ r ≡ isFragment (now (packet .entry)) ⌝ }
+{
+    let field = joined(packet[FRAGMENT_FIELD], packet[FRAGMENT_FIELD + 1]);
+    field & (MORE_FRAGMENTS | FRAGMENT_OFFSET) != 0
+}
+
+// The number with these two octets.
+fn joined(upper: u8, lower: u8) -> u16
+    ensures { λ r. ⌜ r ≡ upper * 256 + lower ⌝ }
+{
+    upper as u16 * 256 + lower as u16
 }

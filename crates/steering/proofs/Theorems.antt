@@ -1,15 +1,16 @@
 -- What readers ask of the packet question, over the definitions alone.
 -- Assumes nothing.
 use mathlib.Core.Path.{_≡_, refl, sym, ap, _∙_}
-use mathlib.Core.List.{List}
+use mathlib.Core.List.{List, _++_}
 use mathlib.Core.Bool.{Bool, true, false, cond}
 use Prim.Native.Nat.{ℕ, _%_, _≤_, _<_}
 use native.Mathlib.Nat.{mod-lt}
 use native.Mathlib.Omega.{arith}
 use lib.ListN.{length, getD}
 use Rattle.toeplitz.specs.Hash.{publishedHash}
-use Rattle.packet.specs.Packets.{PacketType, noType, hashType, kindOf, inputOf}
-use Rattle.steering.specs.Steering.{isSet, plainType, typeUsed, queueOf, Choice, unhashed, hashed, queueIn, chosen, steered}
+use Rattle.packet.specs.Packets.{PacketType, noType, hashType, isIpv4, isFragment, kindOf, inputOf, ipv4Source, ipv4Destination}
+use Rattle.packet.proofs.Fragments.{fragment-plain, addresses-input}
+use Rattle.steering.specs.Steering.{isSet, plainType, typeUsed, queueOf, Choice, unhashed, hashed, queueIn, hashedTo, chosen, steered}
 use Rattle.steering.specs.Steering.{choiceOf}
 use Rattle.steering.specs.declared.Steered.{Steered}
 use Rattle.steering.specs.declared.Steered.the-variants.{NoType, Hashed}
@@ -48,6 +49,23 @@ answered-together flags key table packet t hash queue e = together (typeUsed fla
         → (k ≡ hashType t) × (hash ≡ publishedHash key (inputOf t packet)) × (queue ≡ queueOf table hash)
     together noType h = let z : _≡_ {A = ℕ} 0 1 = cc in absurd (omega arith)
     together (hashType u) h = (cc, cc, cc)
+
+-- the answer for a fragment of an IPv4 datagram is settled by its addresses: its type is the plain one, or none
+fragment-answer : (flags : ℕ) (key table p : List ℕ) → isIpv4 p ≡ true → isFragment p ≡ true
+    → steered flags key table p ≡ cond (isSet flags 0) (hashedTo 0 (publishedHash key (ipv4Source p ++ ipv4Destination p)) table) (unhashed 0)
+unfolding typeUsed chosen
+fragment-answer flags key table p four fragment = rw (fragment-plain p four fragment, ← addresses-input p) (by (isSet flags 0))
+  where
+    by : (s : Bool) → chosen key table p (cond s (hashType 0) (cond s (hashType 0) noType))
+        ≡ cond s (hashedTo 0 (publishedHash key (inputOf 0 p)) table) (unhashed 0)
+    by true = refl
+    by false = refl
+
+-- fragments with the same source and destination get the same type, hash and queue, whatever else is in them
+pub fragments-together : (flags : ℕ) (key table p q : List ℕ) → isIpv4 p ≡ true → isFragment p ≡ true → isIpv4 q ≡ true → isFragment q ≡ true
+    → ipv4Source p ≡ ipv4Source q → ipv4Destination p ≡ ipv4Destination q → steered flags key table p ≡ steered flags key table q
+fragments-together flags key table p q four fragment four′ fragment′ source destination =
+    fragment-answer flags key table p four fragment ∙ rw (source, destination) (sym (fragment-answer flags key table q four′ fragment′))
 
 -- the reading of an answer keeps answers apart, so the contract leaves no choice
 answer-of : Choice → Steered
