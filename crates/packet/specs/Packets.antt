@@ -22,7 +22,7 @@ isIpv4 p = leb 20 (length p) && eqb (getD p 0 0) 0x45
 unfoldable pub isIpv6 : List ℕ → Bool
 isIpv6 p = leb 40 (length p) && eqb (getD p 0 0 / 16) 6
 
--- TCP: the octet at `at` is 6, and there are `least` octets or more
+-- TCP by number and length: the octet at `at` is 6, and there are `least` octets or more; no more is asked of IPv6
 unfoldable pub isTcp : ℕ → ℕ → List ℕ → Bool
 isTcp at least p = leb least (length p) && eqb (getD p at 0) 6
 
