@@ -1,8 +1,8 @@
 """Packets, rule by rule, for people who do not read proofs: what kind a packet is, its hash type and hash, its queue.
 
-Everything here is read off document 01 ("The hash and the queue"), with the rule on fragments added later. It is written to be read and to be slow: it shares
-no code and no method with the proved backend, and its answers are what the backend's are compared with. The settings
-are those of messages.py.
+Everything here is read off document 01 ("The hash and the queue"), with the rule on fragments added later. It is written
+to be read and to be slow: it shares no code and no method with the proved backend, and its answers are what the
+backend's are compared with. The settings are those of messages.py.
 """
 
 import toeplitz

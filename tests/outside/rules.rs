@@ -111,11 +111,6 @@ pub fn set_count(page: &mut [u8], at: usize, count: u32) {
     page[at..at + 4].copy_from_slice(&count.to_le_bytes());
 }
 
-/// The 16 bits of an IPv4 packet with its fragment flags and offset, which are not little-endian.
-pub fn fragment_field(packet: &[u8]) -> u16 {
-    u16::from_be_bytes([packet[6], packet[7]])
-}
-
 /// An octet with count c stands at c modulo 1,024 in its area; these begin with this count.
 pub fn put_octets(page: &mut [u8], area: usize, from: u32, octets: impl Iterator<Item = u8>) {
     for (i, octet) in octets.enumerate() {
@@ -367,10 +362,19 @@ pub trait Rules {
         packet.len() >= 40 && packet[0] >> 4 == 6
     }
 
-    /// An IPv4 packet is a fragment if any of the low 14 bits of octets 6 and 7 is set: behind the reserved bit and the
-    /// don't-fragment bit, which go out here, are the more-fragments bit and the fragment offset (RFC 791).
+    /// Octets 6 and 7 of an IPv4 packet are 16 bits, the upper octet first (RFC 791).
+    fn fragment_field(&self, packet: &[u8]) -> u16 {
+        u16::from_be_bytes([packet[6], packet[7]])
+    }
+
+    /// Below a reserved bit and the don't-fragment bit, these are the more-fragments bit and 13 bits of fragment offset.
+    fn fragment_bits(&self) -> u16 {
+        1 << 13 | (1 << 13) - 1
+    }
+
+    /// An IPv4 packet is a fragment if any of these bits is set.
     fn is_fragment(&self, packet: &[u8]) -> bool {
-        fragment_field(packet) << 2 != 0
+        self.fragment_field(packet) & self.fragment_bits() != 0
     }
 
     /// A packet is TCP if its protocol, octet 9 of IPv4 and octet 6 of IPv6, is 6 and both ports are there; a fragment of

@@ -162,33 +162,33 @@ wrong_rules! {
         }
     }
     Steer, "an IPv4 packet is typed by octet 9 alone": {
-        fn is_fragment(&self, _packet: &[u8]) -> bool {
-            false
+        fn fragment_bits(&self) -> u16 {
+            0
         }
     }
     Steer, "the first fragment is TCP": {
-        fn is_fragment(&self, packet: &[u8]) -> bool {
-            fragment_field(packet) & 0x1fff != 0
+        fn fragment_bits(&self) -> u16 {
+            0x1fff
         }
     }
     Steer, "the don't-fragment bit is taken for more-fragments": {
-        fn is_fragment(&self, packet: &[u8]) -> bool {
-            fragment_field(packet) & 0x5fff != 0
+        fn fragment_bits(&self) -> u16 {
+            0x5fff
         }
     }
     Steer, "the fragment offset has no top bit": {
-        fn is_fragment(&self, packet: &[u8]) -> bool {
-            fragment_field(packet) & 0x2fff != 0
+        fn fragment_bits(&self) -> u16 {
+            0x2fff
         }
     }
     Steer, "the fragment offset has no lowest bit": {
-        fn is_fragment(&self, packet: &[u8]) -> bool {
-            fragment_field(packet) & 0x3ffe != 0
+        fn fragment_bits(&self) -> u16 {
+            0x3ffe
         }
     }
     Steer, "the fragment field is little-endian": {
-        fn is_fragment(&self, packet: &[u8]) -> bool {
-            fragment_field(packet).swap_bytes() & 0x3fff != 0
+        fn fragment_field(&self, packet: &[u8]) -> u16 {
+            Written.fragment_field(packet).swap_bytes()
         }
     }
     Steer, "the queue follows from the hash without its lowest bit": {
