@@ -138,6 +138,21 @@ pub falls-so : (ms : List (List ℕ)) (rest : List ℕ) → Messages ms → begi
     → (messagesIn (joined ms ++ rest) ≡ ms) × (restOf (joined ms ++ rest) ≡ rest)
 falls-so ms rest whole part = falls-within (length (joined ms ++ rest)) ms rest whole part (omega arith)
 
+-- the step by which a stream falls: its first message, then what is behind that; or nothing
+pub falls-first : (xs : List ℕ) → beginsWhole xs ≡ true
+    → (messagesIn xs ≡ firstMessage xs ∷ messagesIn (behindFirst xs)) × (restOf xs ≡ restOf (behindFirst xs))
+falls-first xs e =
+    let first = firstMessage xs in
+    let others = messagesIn (behindFirst xs) in
+    let rest = restOf (behindFirst xs) in
+    let so = falls-so (first ∷ others) rest (more first others (first-long xs e) (messages-whole (behindFirst xs))) (rest-part (behindFirst xs)) in
+    let same : joined (first ∷ others) ++ rest ≡ xs =
+    joined-rest first others rest ∙ ap (λ (l : List ℕ). first ++ l) (stream-parts (behindFirst xs)) ∙ take-append-drop (messageLength xs) xs in
+    (ap messagesIn (sym same) ∙ so .0, ap restOf (sym same) ∙ so .1)
+
+pub falls-none : (xs : List ℕ) → beginsWhole xs ≡ false → (messagesIn xs ≡ []) × (restOf xs ≡ xs)
+falls-none xs e = (messages-none (length xs) xs e, rest-all (length xs) xs e)
+
 -- one message more
 pub joined-snoc : (ms : List (List ℕ)) (m : List ℕ) → joined (ms ++ (m ∷ [])) ≡ joined ms ++ m
 joined-snoc [] m = rw (joined-more m [], joined-none) (append-nil m)

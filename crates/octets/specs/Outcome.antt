@@ -6,3 +6,8 @@ use Prim.Native.Nat.{ℕ}
 pub data Outcome (A : Type 0) : Type 0 where
   value : A → Outcome A
   refused : ℕ → Outcome A
+
+-- where there is a value, what is made of it; else the same refusal
+abbrev pub andThen : {A B : Type 0} → Outcome A → (A → Outcome B) → Outcome B
+andThen (value x) f = f x
+andThen (refused n) f = refused n

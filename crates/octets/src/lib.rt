@@ -54,7 +54,7 @@ pub fn read_u32(octets: &[u8], at: usize) -> u32
 }
 
 // The number with these octets, the lowest first.
-fn joined(a: u8, b: u8, c: u8, d: u8) -> u32
+pub fn joined(a: u8, b: u8, c: u8, d: u8) -> u32
     ensures { λ r. ⌜ r ≡ a + 256 * b + 65536 * c + 16777216 * d ⌝ }
 {
     a as u32 + 256 * (b as u32) + 65536 * (c as u32) + 16777216 * (d as u32)

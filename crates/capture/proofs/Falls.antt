@@ -1,0 +1,61 @@
+-- The records into which octets fall: one after the other, whatever number of steps is allowed.
+-- Assumes nothing.
+use mathlib.Core.Path.{_≡_, refl, sym, ap, _∙_}
+use mathlib.Core.List.{List}
+use mathlib.Core.Bool.{true, false, cond}
+use mathlib.Core.Logic.{inr}
+use Prim.Native.Nat.{ℕ, zero, suc, _+_, _-_, _≤_, _<_}
+use native.Mathlib.Omega.{arith}
+use lib.ListN.{length, length-drop}
+use borrow.Author.Tests.{leb-true}
+use Rattle.octets.proofs.Truth.{both-true}
+use Rattle.capture.specs.Records.{recordHeader, maxRecord, capturedLength, beginsRecord, firstRecord, behindRecord}
+use Rattle.capture.specs.Records.{Fall, noRecord, oneMore, fallWithin, fallOf}
+use Rattle.capture.specs.declared.Order.{Order}
+use Rattle.capture.proofs.Steps.{begins-not}
+
+-- what a good record at the start says of the lengths
+pub begins-fits : (o : Order) (xs : List ℕ) → beginsRecord o xs ≡ true
+    → (capturedLength o xs ≤ maxRecord) × (recordHeader + capturedLength o xs ≤ length xs)
+unfolding beginsRecord
+begins-fits o xs e =
+    let both = both-true _ _ .0 e in
+    (leb-true _ _ (both .0), leb-true _ _ (both .1))
+
+module _ (o : Order) where
+  -- one step, where a good record stands and where none does
+  pub within-next : (n : ℕ) (xs : List ℕ) → beginsRecord o xs ≡ true
+      → fallWithin (suc n) o xs ≡ oneMore (firstRecord o xs) (fallWithin n o (behindRecord o xs))
+  unfolding fallWithin
+  within-next n xs e = rw e refl
+
+  pub within-none : (n : ℕ) (xs : List ℕ) → beginsRecord o xs ≡ false → fallWithin n o xs ≡ noRecord xs
+  unfolding fallWithin
+  within-none zero xs e = refl
+  within-none (suc n) xs e = rw e refl
+
+  pub no-octets : (xs : List ℕ) → length xs ≤ 0 → beginsRecord o xs ≡ false
+  no-octets xs h = begins-not o xs (capturedLength o xs) refl (inr (omega arith))
+
+  -- as many steps as octets are enough: more give the same
+  within-enough : (n m : ℕ) (xs : List ℕ) → length xs ≤ n → length xs ≤ m → fallWithin n o xs ≡ fallWithin m o xs
+  unfolding fallWithin
+  within-enough zero m xs ln lm = sym (within-none m xs (no-octets xs ln))
+  within-enough (suc n) zero xs ln lm = within-none (suc n) xs (no-octets xs lm)
+  within-enough (suc n) (suc m) xs ln lm =
+      let size = recordHeader + capturedLength o xs in
+      let less : length (behindRecord o xs) ≡ length xs - size = length-drop size xs in
+      let further = within-enough n m (behindRecord o xs) (omega (arith, less)) (omega (arith, less)) in
+      ap (λ (f : Fall). cond (beginsRecord o xs) (oneMore (firstRecord o xs) f) (noRecord xs)) further
+
+  pub fall-next : (xs : List ℕ) → beginsRecord o xs ≡ true → fallOf o xs ≡ oneMore (firstRecord o xs) (fallOf o (behindRecord o xs))
+  fall-next xs e =
+      let f = begins-fits o xs e .1 in
+      let n : ℕ = length xs - 1 in
+      let size = recordHeader + capturedLength o xs in
+      let less : length (behindRecord o xs) ≡ length xs - size = length-drop size xs in
+      let enough = within-enough n (length (behindRecord o xs)) (behindRecord o xs) (omega (arith, less)) (omega arith) in
+      ap (λ (k : ℕ). fallWithin k o xs) (omega (arith, f)) ∙ within-next n xs e ∙ ap (oneMore (firstRecord o xs)) enough
+
+  pub fall-none : (xs : List ℕ) → beginsRecord o xs ≡ false → fallOf o xs ≡ noRecord xs
+  fall-none xs e = within-none (length xs) xs e

@@ -1,0 +1,25 @@
+-- `capture::headers::is_classic` meets its contract: each return has passed the tests before it.
+-- Assumes nothing.
+use mathlib.Core.Path.{refl}
+use borrow.Author.Tests.{ne-eqb}
+use Rattle.capture.specs.Header.{isClassic}
+use borrow.Author.Needs.{needs}
+use Rattle.capture.proofs.headers.is_classic.Statement.{statement}
+use Rattle.capture.proofs.headers.is_classic.Tie as tie
+
+returns : tie.Need-returns
+unfolding isClassic
+returns c = rw (← c .before .u32-at .ensures, ne-eqb _ _ (c .if1 .taken)) refl
+
+returns-2 : tie.Need-returns-2
+unfolding isClassic
+returns-2 c = rw (← c .before .before .before .u32-at .ensures, c .before .before .if1 .left, ← c .before .u16-at .ensures, ne-eqb _ _ (c .if2 .taken)) refl
+
+returns-3 : tie.Need-returns-3
+unfolding isClassic
+returns-3 c = rw (← c .before .before .before .before .u32-at .ensures, c .before .before .before .if1 .left, ← c .before .before .u16-at .ensures, c .before .if2 .left, ← c .u16-at2 .ensures) refl
+
+pub is-classic-spec : {M : Type 1} → statement M
+is-classic-spec =
+    tie.close
+    (tie.spec (λ c κs. search needs) returns (λ c κs. search needs) returns-2 (λ c κs. search needs) returns-3)

@@ -1,0 +1,19 @@
+-- `capture::headers::order` meets its contract: the first four octets are read highest first.
+-- Assumes nothing.
+use mathlib.Core.Path.{refl}
+use borrow.Author.Tests.{ne-eqb}
+use Rattle.capture.specs.Header.{orderOf}
+use borrow.Author.Needs.{needs}
+use Rattle.capture.proofs.headers.order.Statement.{statement}
+use Rattle.capture.proofs.headers.order.Tie as tie
+
+returns : tie.Need-returns
+unfolding orderOf
+returns c = rw (← c .before .u32-at .ensures, c .if1 .taken) refl
+
+returns-2 : tie.Need-returns-2
+unfolding orderOf
+returns-2 c = rw (← c .before .u32-at .ensures, ne-eqb _ _ (c .if1 .left)) refl
+
+pub order-spec : {M : Type 1} → statement M
+order-spec = tie.close (tie.spec (λ c κs. search needs) returns returns-2)
