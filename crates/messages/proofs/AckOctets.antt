@@ -49,17 +49,22 @@ payload-status r status h = by (carriesFlags r status) refl
     by true e = number-octets fieldSize success (octetsOf fieldSize allFlags) (omega arith) ∙ sym (flags-success r status e .1)
     by false e = number-octets-alone fieldSize status h
 
--- the payload of an ack is a field or two, so the ack has its place
-pub payload-short : (r : Request) (status : ℕ) → length (ackPayload r status) ≤ 16
-payload-short r status = by-flags (carriesFlags r status)
+-- the payload of an ack is a field or two, so it holds a status, and the ack has its place
+pub payload-size : (r : Request) (status : ℕ) → (fieldSize ≤ length (ackPayload r status)) × (length (ackPayload r status) ≤ 16)
+payload-size r status = by-flags (carriesFlags r status)
   where
-    by-flags : (b : Bool) → length (cond b (flagsPayload allFlags) (statusPayload status)) ≤ 16
+    by-flags : (b : Bool)
+        → (fieldSize ≤ length (cond b (flagsPayload allFlags) (statusPayload status)))
+        × (length (cond b (flagsPayload allFlags) (statusPayload status)) ≤ 16)
     by-flags true =
         let two = length-append (octetsOf fieldSize success) (octetsOf fieldSize allFlags) in
         let first = length-octets fieldSize success in
         let second = length-octets fieldSize allFlags in
-        omega arith
-    by-flags false = let one = length-octets fieldSize status in omega arith
+        (omega arith, omega arith)
+    by-flags false = let one = length-octets fieldSize status in (omega arith, omega arith)
+
+pub payload-short : (r : Request) (status : ℕ) → length (ackPayload r status) ≤ 16
+payload-short r status = payload-size r status .1
 
 pub stored-fits : (payload : List ℕ) → length payload ≤ 16
     → (length (ackStored payload .octets) ≡ maxAck) × (ackStored payload .length ≤ maxAck)

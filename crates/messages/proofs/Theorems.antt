@@ -5,21 +5,22 @@ use mathlib.Core.Path.{_≡_, refl, sym, ap, _∙_}
 use mathlib.Core.Logic.{_↔_}
 use mathlib.Core.Bool.{true}
 use mathlib.Core.List.{List, [], _∷_}
-use Prim.Native.Nat.{ℕ, _^_, _≤_, _<_}
+use Prim.Native.Nat.{ℕ, _+_, _^_, _≤_, _<_}
 use native.Mathlib.Omega.{arith}
 use lib.ListN.{length, take}
-use lib.Seq.{take-append-seam}
+use lib.Seq.{take-append-seam, getD-take}
 use lib.Pow.{pow-mono}
-use Rattle.octets.proofs.Numbers.{number-octets-alone}
+use Rattle.octets.specs.Numbers.{numberAt}
+use Rattle.octets.proofs.Numbers.{number-same, number-octets-alone}
 use Rattle.toeplitz.specs.Hash.{keyLength}
-use Rattle.messages.specs.Wire.{maxPayload, fieldSize, message, statusIn, ackType, success}
+use Rattle.messages.specs.Wire.{maxPayload, headerSize, fieldSize, message, statusIn, ackType, success}
 use Rattle.messages.specs.Settings.{maxQueues, isPowerBelow, isPowerOfTwo, isListed, settingsAtSetup, Good}
 use Rattle.messages.specs.Requests.{requestOf, statusOf, replaced, statusPayload, ackPayload, maxAck, ackIn, ackStatus}
 use Rattle.messages.specs.Requests.{answered, carriedBy, carriedOut}
 use Rattle.messages.specs.declared.Settings.{Settings}
 use Rattle.messages.proofs.Powers.{power-exactly, listed-parts, exponent-most}
-use Rattle.messages.proofs.Parts.{number-payload}
-use Rattle.messages.proofs.AckOctets.{payload-status, payload-short, stored-fits}
+use Rattle.messages.proofs.Parts.{length-message, number-payload}
+use Rattle.messages.proofs.AckOctets.{payload-status, payload-size, payload-short, stored-fits}
 use Rattle.messages.proofs.Statuses.{status-most}
 use Rattle.messages.proofs.Effects.{settings-refused, settings-done, settings-either, replaced-queues}
 use Rattle.messages.proofs.Goodness.{good-mapping, first-table, good-replaced}
@@ -44,6 +45,18 @@ module _ (s : Settings) (t n : ℕ) (p : List ℕ) where
       let status = statusOf r (s .queues) n p in
       let small : status ≤ 3 = status-most (s .queues) n p r in
       ap statusIn ack-is ∙ number-payload ackType (ackPayload r status) fieldSize 0 ∙ payload-status r status (omega arith)
+
+  -- and where it is read from the ack as it is handed on
+  pub status-in-place : numberAt fieldSize (carriedOut s t n p .ack .octets) headerSize ≡ ackStatus (carriedOut s t n p)
+  unfolding carriedBy
+  status-in-place =
+      let c = carriedOut s t n p in
+      let r = requestOf t in
+      let payload = ackPayload r (statusOf r (s .queues) n p) in
+      let long : length (message ackType payload) ≡ headerSize + length payload = length-message ackType payload in
+      let some = payload-size r (statusOf r (s .queues) n p) .0 in
+      number-same fieldSize (c .ack .octets) (ackIn c) headerSize headerSize
+      (λ k l. sym (getD-take (c .ack .length) (c .ack .octets) (headerSize + k) 0 (omega (arith, long, some))))
 
   -- demand 1: a request acked with a nonzero status leaves key, mapping and flags as they stood
   pub refused-keeps-settings : (ackStatus (carriedOut s t n p) ≡ success → ⊥) → carriedOut s t n p .settings ≡ s

@@ -33,7 +33,7 @@ use denote.Triple.Spec.{Meets, tripleOf}
 use denote.Triple.Table.{entered}
 use denote.Triple.Walked.{says, Stays, walkOf, ends-at, walked, walk-meets}
 use Rattle.capture.specs.declared.reader.Reader.{Reader}
-use Rattle.capture.proofs.Readers.{D, L, B, reader-stay, number-stay, reader-goes, number-goes, reader-typed, number, copied}
+use Rattle.capture.proofs.Readers.{D, L, B, reader-stay, number-stay, reader-goes, number-goes, reader-copy, reader-typed, number, copied}
 use Rattle.capture.proofs.reader.Reader.Laws as T′
 use Rattle.capture.proofs.reader.moved as moved
 use Rattle.capture.proofs.reader.moved.Code as code
@@ -71,8 +71,7 @@ module _ {M : Type 1} (𝓤 : URA M) (H : Heap 𝓤) (A : Atoms 𝓤) (W : Given
     exits =
         qed W ((‵ (flft κ q) ⊛ ‵ ftrue) ∷ ‵ (owns (B (κ, tt) ∷ usize ∷ []) (d, (n, tt)) vs) ∷ []) ∵
         suffices ! _ (ends-at 𝓤 H A moved.ended stayed clauses W passed (T′.lowered made) made (tt, (tt, tt)) (tt, (tt, tt))) $
-        says ! (refl, refl) $ frame ! $ fsplit ! $
-        copied ! (B (κ, tt)) (LL.copy (D (κ, tt)) (T′.the-copy (namedLft 1 0 tt (κ, tt))) 𝓤 H A W) d (v ∷ []) $
+        says ! (refl, refl) $ frame ! $ fsplit ! $ copied ! (B (κ, tt)) (reader-copy 𝓤 H A W (κ, tt)) d (v ∷ []) $
         move ! (0 ∷ 2 ∷ []) $ fjoin ! $ frame ! $
         -- [what d owns]
         number ! n ok $ move ! (1 ∷ 0 ∷ []) $ by ! (own-put 𝓤 H A W (D (κ, tt)) (L (κ, tt)) 1 (d .capture, (d .at, tt)) n v)

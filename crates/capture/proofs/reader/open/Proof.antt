@@ -25,7 +25,7 @@ use denote.RattleType.{owns}
 use denote.Laws.{Is}
 use denote.Builtin.{u8}
 use denote.Ref.{RefT}
-use denote.Slice.{sliceVal, slice-vals, shr-slice-tells, shr-slice-lawful, shr-slice-copy}
+use denote.Slice.{sliceVal, slice-vals, shr-slice-tells, shr-slice-lawful}
 use denote.Steps.{nothing}
 use denote.Struct.Rest.{own-shut}
 use denote.Triple.Clauses.{Clauses}
@@ -34,7 +34,7 @@ use denote.Triple.Spec.{Meets, tripleOf}
 use denote.Triple.Table.{entered}
 use denote.Triple.Walked.{says, Stays, walkOf, ends-at, walked, walk-meets}
 use Rattle.capture.specs.declared.reader.Reader.{Reader}
-use Rattle.capture.proofs.Readers.{D, L, Octets, octets-stay, octets-goes, number, copied}
+use Rattle.capture.proofs.Readers.{D, L, Octets, octets-stay, octets-goes, octets-copy, number, copied}
 use Rattle.capture.proofs.reader.Reader.Laws as T′
 use Rattle.capture.proofs.reader.«open» as opened
 use Rattle.capture.proofs.reader.«open».Code as code
@@ -72,7 +72,7 @@ module _ {M : Type 1} (𝓤 : URA M) (H : Heap 𝓤) (A : Atoms 𝓤) (W : Given
     exits =
         qed W ((‵ (flft κ q) ⊛ ‵ ftrue) ∷ ‵ (owns (Octets κ ∷ []) (s, tt) vs) ∷ []) ∵
         suffices ! _ (ends-at 𝓤 H A opened.ended stayed clauses W passed (T′.lowered made) made (tt, tt) (tt, tt)) $
-        says ! (refl, refl) $ frame ! $ fsplit ! $ copied ! (Octets κ) (shr-slice-copy 𝓤 H A W (named 0) κ u8) s (v ∷ []) $
+        says ! (refl, refl) $ frame ! $ fsplit ! $ copied ! (Octets κ) (octets-copy 𝓤 H A W κ) s (v ∷ []) $
         move ! (0 ∷ 2 ∷ []) $ fjoin ! $ frame ! $
         -- [what s owns]: what the fields own together is what the struct owns
         nothing ! $ number ! 24 (lit< tt) $ fjoin ! $ move ! (1 ∷ 0 ∷ []) $ fjoin ! $ by ! (own-shut 𝓤 H A W (D (κ, tt)) (L (κ, tt)) (s, (24, tt)))

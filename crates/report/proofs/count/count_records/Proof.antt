@@ -1,0 +1,233 @@
+-- `report::count::count_records` meets its contract: at each place the counts, with what the records from there on come to,
+-- are what all records come to.
+-- Assumes nothing.
+use mathlib.Core.Path.{_≡_, sym, ap, subst, _∙_}
+use mathlib.Core.List.{List, []}
+use Prim.Native.Nat.{ℕ, _+_, _-_, _≤_, _<_}
+use native.Mathlib.Omega.{arith}
+use lib.ListN.{length, take, drop, length-drop}
+use lib.Seq.{length-take-le}
+use borrow.Author.Needs.{needs}
+use Rattle.octets.specs.Outcome.{value}
+use Rattle.messages.specs.Settings.{maxQueues}
+use Rattle.messages.specs.declared.Settings.{Settings}
+use Rattle.steering.specs.Steering.{queueIn}
+use Rattle.backend.proofs.Queues.{good-queue}
+use Rattle.capture.specs.Header.{captureHeader, orderOf}
+use Rattle.capture.specs.Records.{Fall, noRecord, oneMore, fallOf, stepOutcomeOf, capturedOctets}
+use Rattle.capture.specs.Packets.{ipPart}
+use Rattle.capture.specs.declared.Link.{Link}
+use Rattle.capture.proofs.Found.{IsRecord, found-record, found-end, found-bad}
+use Rattle.capture.proofs.Theorems.{records-fill}
+use Rattle.report.specs.Counting.{choiceFor, countedOver}
+use Rattle.report.specs.Inner.{HasRoom}
+use Rattle.report.proofs.Orders.{bad-records, good-records}
+use Rattle.report.proofs.Counters.{Counting, counting-none, counting-room, counting-next, counting-fits, counting-bad, counting-all, counting-done}
+use Rattle.report.proofs.count.count_records.Statement.{statement}
+use Rattle.report.proofs.count.count_records.Tie as tie
+
+-- all records of a capture, and those from a place on
+abbrev rest-of : List ℕ → ℕ → Fall
+rest-of captured at = fallOf (orderOf captured) (drop at captured)
+
+abbrev all-of : List ℕ → Fall
+all-of captured = rest-of captured captureHeader
+
+abbrev Inv-loop : tie.InvT-loop
+Inv-loop settings link captured mapping key entries packets₀ octets₀ unhashed₀ total-packets₀ total-octets₀ at₀ packets octets unhashed total-packets total-octets at =
+    Counting settings link (all-of captured) (rest-of captured at) packets octets unhashed total-packets total-octets
+
+abbrev μ-loop : tie.MeasureT-loop
+μ-loop settings link captured mapping key entries packets₀ octets₀ unhashed₀ total-packets₀ total-octets₀ at₀ packets octets unhashed total-packets total-octets at =
+    length captured - at
+
+-- where a record was found
+module _ (d : tie.After-known-told Inv-loop μ-loop) where
+  abbrev loop-of : tie.At-loop Inv-loop μ-loop
+  loop-of = d .before .before .before .before
+
+  abbrev start-of : tie.Start Inv-loop μ-loop
+  start-of = loop-of .before .before .before .before .before
+
+  abbrev settings-of : Settings
+  settings-of = start-of .args .settings
+
+  abbrev link-of : Link
+  link-of = start-of .args .link
+
+  abbrev capture-of : List ℕ
+  capture-of = start-of .args .captured .now
+
+  abbrev first-of : ℕ
+  first-of = d .before .step .given .0 .0
+
+  abbrev end-of : ℕ
+  end-of = d .before .step .given .0 .1 .0
+
+  abbrev record-of : List ℕ
+  record-of = take (end-of - first-of) (drop first-of capture-of)
+
+  found : IsRecord capture-of (loop-of .loop .at) first-of end-of
+  found =
+      let at = d .before .before .before .record-at in
+      found-record capture-of (loop-of .loop .at) first-of end-of (sym (at .ensures) ∙ ap stepOutcomeOf (d .before .step .given .1))
+
+  size : length record-of ≡ end-of - first-of
+  size =
+      let f = found in
+      length-take-le (end-of - first-of) (drop first-of capture-of) (omega (arith, length-drop first-of capture-of, f .inside))
+
+  counting : let l = loop-of .loop in
+      Counting settings-of link-of (all-of capture-of) (oneMore record-of (rest-of capture-of end-of)) (l .packets) (l .octets) (l .unhashed)
+      (l .total-packets) (l .total-octets)
+  counting =
+      let l = loop-of .loop in
+      subst (λ (f : Fall). Counting settings-of link-of (all-of capture-of) f (l .packets) (l .octets) (l .unhashed) (l .total-packets) (l .total-octets))
+      (found .fall) (l .inv)
+
+  below : queueIn (choiceFor settings-of link-of record-of) < maxQueues
+  below =
+      let good = start-of .pre .0 in
+      omega (arith, good-queue settings-of (ipPart link-of record-of) good, good .queues)
+
+  most : length (all-of capture-of .records) + capturedOctets (all-of capture-of .records) ≤ 65536
+  most =
+      omega (arith, records-fill (orderOf capture-of) (drop captureHeader capture-of), length-drop captureHeader capture-of, start-of .pre .1)
+
+  room : HasRoom (choiceFor settings-of link-of record-of) (length record-of) (loop-of .loop .packets) (loop-of .loop .octets)
+  room = counting-room settings-of link-of (all-of capture-of) (rest-of capture-of end-of) record-of _ _ _ _ _ counting below most
+
+-- and counted
+module _ (c : tie.After-count-record Inv-loop μ-loop) where
+  abbrev told : tie.After-known-told Inv-loop μ-loop
+  told = c .before .before .before .before .before .before
+
+  -- the counts left
+  abbrev packets-left : List ℕ
+  packets-left = c .count-record .last .1 .1 .1 .1 .1 .1 .0
+
+  abbrev octets-left : List ℕ
+  octets-left = c .count-record .last .1 .1 .1 .1 .1 .1 .1 .0
+
+  next : let l = loop-of told .loop in
+      Counting (settings-of told) (link-of told) (all-of (capture-of told)) (rest-of (capture-of told) (end-of told)) packets-left octets-left
+      (l .unhashed + c .count-record .result) (l .total-packets + 1) (l .total-octets + (end-of told - first-of told))
+  next =
+      counting-next (settings-of told) (link-of told) (all-of (capture-of told)) (rest-of (capture-of told) (end-of told)) (record-of told) _ _ _ _ _
+      (counting told) (below told) _ _ _ (c .count-record .ensures) (end-of told - first-of told) (size told)
+
+  fits : let l = loop-of told .loop in
+      (l .unhashed + c .count-record .result ≤ 65536) × (l .total-packets + 1 ≤ 65536)
+      × (l .total-octets + (end-of told - first-of told) ≤ 65536)
+  fits =
+      counting-fits (settings-of told) (link-of told) (all-of (capture-of told)) (rest-of (capture-of told) (end-of told)) _ _ _ _ _ next (most told)
+
+loop-holds : tie.Need-loop-holds Inv-loop μ-loop
+loop-holds c = let a = c .before .before .before .before .args in counting-none (a .settings) (a .link) (all-of (a .captured .now))
+
+record-at-requires : tie.Need-record-at-requires Inv-loop μ-loop
+record-at-requires c κs = search needs
+
+enum-known-step : tie.Need-enum-known-step Inv-loop μ-loop
+enum-known-step c = search needs
+
+sub-count-record : tie.Need-sub-count-record Inv-loop μ-loop
+sub-count-record c = found (c .before .before) .forward
+
+part-count-record-start : tie.Need-part-count-record-start Inv-loop μ-loop
+part-count-record-start c = found (c .before .before) .forward
+
+part-count-record-end : tie.Need-part-count-record-end Inv-loop μ-loop
+part-count-record-end c = found (c .before .before) .inside
+
+count-record-requires : tie.Need-count-record-requires Inv-loop μ-loop
+count-record-requires c κs =
+    let d = c .before .before .before .before .before in
+    (start-of d .pre .0 .mapping .listed, room d)
+
+add-unhashed : tie.Need-add-unhashed Inv-loop μ-loop
+add-unhashed c = let f = fits c .0 in search needs
+
+add-total-packets : tie.Need-add-total-packets Inv-loop μ-loop
+add-total-packets c = let f = fits c .1 in search needs
+
+sub-total-octets : tie.Need-sub-total-octets Inv-loop μ-loop
+sub-total-octets c = found (c .before .before .before .before .before .before) .forward
+
+cast-total-octets : tie.Need-cast-total-octets Inv-loop μ-loop
+cast-total-octets c =
+    let d = told c in
+    let inside = found d .inside in
+    let small = start-of d .pre .1 in
+    let most-left : end-of d - first-of d ≤ 65536 = omega (arith, inside, small) in
+    search needs
+
+add-total-octets : tie.Need-add-total-octets Inv-loop μ-loop
+add-total-octets c = let f = fits c .2 in search needs
+
+loop-less : tie.Need-loop-less Inv-loop μ-loop
+loop-less c = let f = found (c .before .before .before .before .before .before) in omega (arith, f .start, f .forward, f .inside)
+
+loop-again : tie.Need-loop-again Inv-loop μ-loop
+loop-again c = next c
+
+enum-told : tie.Need-enum-told Inv-loop μ-loop
+enum-told c = search needs
+
+enum-told-2 : tie.Need-enum-told-2 Inv-loop μ-loop
+enum-told-2 c = search needs
+
+refused-requires : tie.Need-refused-requires Inv-loop μ-loop
+refused-requires c κs = search needs
+
+returns : tie.Need-returns Inv-loop μ-loop
+returns c =
+    let at = c .before .before .before .before in
+    let a = at .before .before .before .before .before .args in
+    let xs = a .captured .now in
+    let l = at .loop in
+    let bad = found-bad xs (l .at) 15 (sym (c .before .before .before .record-at .ensures) ∙ ap stepOutcomeOf (c .before .enum-told2 .given .1)) in
+    let all = counting-bad (a .settings) (a .link) (all-of xs) (rest-of xs (l .at)) _ _ _ _ _ (l .inv) 15 bad in
+    (c .refused .ensures .0 ∙ bad-records (a .settings) (a .link) xs all, c .refused .ensures .1)
+
+returns-2 : tie.Need-returns-2 Inv-loop μ-loop
+returns-2 c =
+    let at = c .before .before .before in
+    let start = at .before .before .before .before .before in
+    let s = start .args .settings in
+    let link = start .args .link in
+    let xs = start .args .captured .now in
+    let l = at .loop in
+    let ended = found-end xs (l .at) (sym (c .before .before .record-at .ensures) ∙ ap stepOutcomeOf (c .enum-told .given .1)) in
+    let few = start .pre .0 .queues in
+    let done =
+    subst (λ (f : Fall). Counting s link (all-of xs) f (l .packets) (l .octets) (l .unhashed) (l .total-packets) (l .total-octets)) ended (l .inv) in
+    let counted = counting-done s link (all-of xs) (l .packets) (l .octets) (l .unhashed) (l .total-packets) (l .total-octets) few done in
+    let all = counting-all s link (all-of xs) (l .packets) (l .octets) (l .unhashed) (l .total-packets) (l .total-octets) few done in
+    (ap value counted ∙ good-records s link xs (all-of xs .records) all, few)
+
+pub count-records-spec : {M : Type 1} → statement M
+count-records-spec =
+    tie.close
+    (tie.spec
+    Inv-loop
+    μ-loop
+    loop-holds
+    record-at-requires
+    enum-known-step
+    sub-count-record
+    part-count-record-start
+    part-count-record-end
+    count-record-requires
+    add-unhashed
+    add-total-packets
+    sub-total-octets
+    cast-total-octets
+    add-total-octets
+    loop-less
+    loop-again
+    enum-told
+    enum-told-2
+    refused-requires
+    returns
+    returns-2)

@@ -1,0 +1,105 @@
+-- `report::load::carry_out_first` meets its contract: a message that is cut short or not acked with success is refused.
+-- Assumes nothing.
+use mathlib.Core.Path.{_≡_, sym, ap₂, subst, _∙_}
+use mathlib.Core.Bool.{true}
+use mathlib.Core.List.{List}
+use Prim.Native.Nat.{ℕ, _+_, _-_}
+use native.Mathlib.Omega.{arith}
+use lib.ListN.{length, take, drop}
+use borrow.Author.Tests.{le-leb, lt-leb}
+use Rattle.messages.specs.Wire.{headerSize, typeIn, sizeIn}
+use Rattle.messages.specs.Requests.{carriedOut}
+use Rattle.messages.specs.declared.Settings.{Settings}
+use Rattle.messages.proofs.Theorems.{ack-fits}
+use Rattle.ring.specs.Reading.{messageLength}
+use Rattle.ring.specs.Streams.{beginsWhole}
+use Rattle.report.specs.Inner.{Keeps}
+use Rattle.report.proofs.Firsts.{first-cut, first-refused, first-done}
+use borrow.Author.Needs.{needs}
+use Rattle.report.proofs.load.carry_out_first.Statement.{statement}
+use Rattle.report.proofs.load.carry_out_first.Tie as tie
+
+-- where a whole message was carried out
+module _ (d : tie.After-carry-out) where
+  abbrev start-of : tie.Start
+  start-of = d .before .before .before .before .before .before .before .before .before
+
+  abbrev settings-of : Settings
+  settings-of = start-of .args .settings
+
+  abbrev file-of : List ℕ
+  file-of = start-of .args .file .now
+
+  abbrev kept-of : List ℕ
+  kept-of = d .before .before .kept .result
+
+  kind : d .before .before .before .before .before .before .read-u32 .result ≡ typeIn file-of
+  kind = d .before .before .before .before .before .before .read-u32 .ensures
+
+  size : d .before .before .before .before .before .read-u322 .result ≡ sizeIn file-of
+  size = d .before .before .before .before .before .read-u322 .ensures
+
+  whole : beginsWhole file-of ≡ true
+  whole = le-leb (messageLength file-of) (length file-of) (omega (arith, d .before .before .before .before .if2 .left, size))
+
+  keeps : Keeps (take (sizeIn file-of) (drop headerSize file-of)) kept-of
+  keeps =
+      let n = d .before .before .before .before .before .read-u322 .result in
+      let same : headerSize + n - headerSize ≡ sizeIn file-of = omega (arith, size) in
+      subst (λ (k : ℕ). Keeps (take k (drop headerSize file-of)) kept-of) same (d .before .before .kept .ensures)
+
+  carried : d .carry-out .result ≡ carriedOut settings-of (typeIn file-of) (sizeIn file-of) kept-of
+  carried = d .carry-out .ensures ∙ ap₂ (λ (t n : ℕ). carriedOut settings-of t n kept-of) kind size
+
+returns : tie.Need-returns
+returns c =
+    let start = c .before .before in
+    let xs = start .args .file .now in
+    first-cut (start .args .settings) xs (start .pre .0) (start .pre .1) (lt-leb (messageLength xs) (length xs) (omega (arith, c .if1 .taken)))
+
+returns-2 : tie.Need-returns-2
+returns-2 c =
+    let start = c .before .before .before .before .before in
+    let xs = start .args .file .now in
+    let size : c .before .read-u322 .result ≡ sizeIn xs = c .before .read-u322 .ensures in
+    first-cut (start .args .settings) xs (start .pre .0) (start .pre .1) (lt-leb (messageLength xs) (length xs) (omega (arith, c .if2 .taken, size)))
+
+read-u64-requires : tie.Need-read-u64-requires
+read-u64-requires c κs =
+    let d = c .before .before .before .before in
+    let size = ack-fits (settings-of d) (typeIn (file-of d)) (sizeIn (file-of d)) (kept-of d) .0 in
+    rw (carried d) (omega (arith, size))
+
+returns-3 : tie.Need-returns-3
+returns-3 c =
+    let d = c .before .before .before .before .before .before in
+    first-refused (settings-of d) (file-of d) (kept-of d) (start-of d .pre .0) (whole d) (keeps d) (d .carry-out .result) (carried d)
+    (λ e. c .if3 .taken (c .before .read-u64 .ensures ∙ e))
+
+returns-4 : tie.Need-returns-4
+returns-4 c =
+    let d = c .before .before .before .before .before .before in
+    let done = first-done (settings-of d) (file-of d) (kept-of d) (start-of d .pre .0) (whole d) (keeps d) (d .carry-out .result) (carried d)
+    (sym (c .before .read-u64 .ensures) ∙ c .if3 .left) in
+    rw (size d) done
+
+pub carry-out-first-spec : {M : Type 1} → statement M
+carry-out-first-spec =
+    tie.close
+    (tie.spec
+    returns
+    (λ c κs. search needs)
+    (λ c κs. search needs)
+    (λ c. search needs)
+    (λ c. search needs)
+    returns-2
+    (λ c. search needs)
+    (λ c. search needs)
+    (λ c. search needs)
+    (λ c κs. search needs)
+    (λ c κs. search needs)
+    (λ c. search needs)
+    read-u64-requires
+    (λ c. search needs)
+    returns-3
+    returns-4)

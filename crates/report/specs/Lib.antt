@@ -1,0 +1,5 @@
+-- The definitions that the contracts of `report` cite.
+pub mod Loading
+pub mod Counting
+pub mod Reports
+pub mod Inner

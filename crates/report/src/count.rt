@@ -1,0 +1,153 @@
+// The records of a capture, counted one after the other.
+ghost use mathlib.Core.Path.{_≡_};
+ghost use mathlib.Core.Bool.{true, cond};
+ghost use Prim.Native.Nat.{_+_, _≤_, _<_, _^_};
+ghost use lib.ListN.{length, getD, take};
+ghost use Rattle.octets.specs.Outcome.{refused as refusal};
+ghost use Rattle.messages.specs.Settings.{maxQueues, isListed, Good};
+ghost use Rattle.steering.specs.Steering.{choiceOf, queueIn, steered};
+ghost use Rattle.capture.specs.Packets.{ipPart};
+ghost use Rattle.report.specs.Counting.{isUnhashed};
+ghost use Rattle.report.specs.Reports.{maxFile, reportOver, reportOf};
+ghost use Rattle.report.specs.Inner.{addedAt, HasRoom, CountsOne};
+use crate::Answer;
+use crate::Counts;
+use crate::MAX_QUEUES;
+use crate::Report;
+use capture::CAPTURE_HEADER;
+use capture::Link;
+use capture::RECORD_WRONG;
+use capture::Step;
+use messages::MAX_ENTRIES;
+use messages::Settings;
+use steering::Steered;
+use toeplitz::KEY_LENGTH;
+
+pub(crate) fn count_records(settings: Settings, link: Link, captured: &[u8]) -> Report
+    requires { ⌜ Good settings × (length (now captured) ≤ maxFile) ⌝ }
+    ensures { λ r. ⌜ (reportOf r ≡ reportOver settings link (now (captured .entry))) × (r .counts .queues ≤ maxQueues) ⌝ }
+{
+    let mapping = settings.mapping;
+    let key = settings.key;
+    let entries = mapping.entries;
+    let mut packets = [0u32; MAX_QUEUES];
+    let mut octets = [0u32; MAX_QUEUES];
+    let mut unhashed: u32 = 0;
+    let mut total_packets: u32 = 0;
+    let mut total_octets: u32 = 0;
+    let mut at = CAPTURE_HEADER;
+    loop {
+        let step = capture::record_at(captured, at);
+        match step {
+            Step::Record { start, end } => {
+                unhashed += count_record(
+                    settings.flags,
+                    &key,
+                    &entries,
+                    mapping.count,
+                    link,
+                    &captured[start..end],
+                    &mut packets,
+                    &mut octets,
+                );
+                total_packets += 1;
+                total_octets += (end - start) as u32;
+                at = end;
+            }
+            Step::End => {
+                break;
+            }
+            Step::Bad => {
+                return refused(RECORD_WRONG);
+            }
+        }
+    }
+    Report {
+        answer: Answer::Done,
+        counts: Counts {
+            queues: settings.queues,
+            packets,
+            octets,
+            unhashed,
+            total_packets,
+            total_octets,
+        },
+    }
+}
+
+// A refusal, with nothing counted.
+pub(crate) fn refused(number: u8) -> Report
+    ensures { λ r. ⌜ (reportOf r ≡ refusal number) × (r .counts .queues ≤ maxQueues) ⌝ }
+{
+    Report {
+        answer: Answer::Refused(number),
+        counts: Counts {
+            queues: 0,
+            packets: [0; MAX_QUEUES],
+            octets: [0; MAX_QUEUES],
+            unhashed: 0,
+            total_packets: 0,
+            total_octets: 0,
+        },
+    }
+}
+
+// Counts one record on its queue, and answers 1 if it has no hash, else 0.
+fn count_record(
+    flags: u8,
+    key: &[u8; KEY_LENGTH],
+    entries: &[u8; MAX_ENTRIES],
+    count: u8,
+    link: Link,
+    frame: &[u8],
+    packets: &mut [u32; MAX_QUEUES],
+    octets: &mut [u32; MAX_QUEUES],
+) -> u32
+    requires { ⌜ isListed count ≡ true ⌝ }
+    requires { ⌜ HasRoom (steered flags (now key) (take count (now entries)) (ipPart link (now frame))) (length (now frame)) (now packets) (now octets) ⌝ }
+    ensures { λ r. ⌜ CountsOne (steered flags (now (key .entry)) (take count (now (entries .entry))) (ipPart link (now (frame .entry))))
+        (length (now (frame .entry))) (now (packets .entry)) (now (octets .entry)) (now (packets .exit)) (now (octets .exit)) r ⌝ }
+{
+    let packet = capture::ip_part(link, frame);
+    let choice = backend::steer_in_place(flags, key, entries, count, packet);
+    let on = queue(choice);
+    add(packets, on, 1);
+    add(octets, on, frame.len() as u32);
+    without_hash(choice)
+}
+
+// Adds to the count of a queue.
+fn add(counts: &mut [u32; MAX_QUEUES], queue: u8, n: u32)
+    requires { ⌜ (queue < maxQueues) × (getD (now counts) queue 0 + n < 2 ^ 32) ⌝ }
+    ensures { λ _. ⌜ now (counts .exit) ≡ addedAt (now (counts .entry)) queue n ⌝ }
+{
+    let at = queue as usize;
+    counts[at] = counts[at] + n;
+}
+
+fn queue(choice: Steered) -> u8
+    ensures { λ r. ⌜ r ≡ queueIn (choiceOf choice) ⌝ }
+{
+    match choice {
+        Steered::NoType { queue } => queue,
+        Steered::Hashed {
+            hash_type: _,
+            hash: _,
+            queue,
+        } => queue,
+    }
+}
+
+// 1 for a packet without a hash, else 0.
+fn without_hash(choice: Steered) -> u32
+    ensures { λ r. ⌜ r ≡ cond (isUnhashed (choiceOf choice)) 1 0 ⌝ }
+{
+    match choice {
+        Steered::NoType { queue: _ } => 1,
+        Steered::Hashed {
+            hash_type: _,
+            hash: _,
+            queue: _,
+        } => 0,
+    }
+}

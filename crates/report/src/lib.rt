@@ -1,0 +1,81 @@
+// How the packets of a capture spread over the queues of an interface with the settings of a file.
+ghost use mathlib.Core.Path.{_≡_};
+ghost use Prim.Native.Nat.{_≤_};
+ghost use lib.ListN.{length};
+ghost use Rattle.messages.specs.Settings.{maxQueues, Good};
+ghost use Rattle.report.specs.Reports.{maxFile, reportUnder, reportOn, reportOf};
+
+mod count;
+mod load;
+
+use capture::HEADER_WRONG;
+use capture::HeaderAnswer;
+use count::count_records;
+use count::refused;
+use load::load_settings;
+use messages::Settings;
+
+// The refusals of the files: too long, no good queue count, and a message cut short or not acked with success.
+pub const FILE_TOO_LONG: u8 = 23;
+
+pub const QUEUES_WRONG: u8 = 6;
+
+pub const SETTINGS_WRONG: u8 = 22;
+
+// The most octets of a file, and the most queues.
+pub const MAX_FILE: usize = 65536;
+
+pub const MAX_QUEUES: usize = 64;
+
+// Whether there is what was asked for, or the number of the refusal.
+pub enum Answer {
+    Done,
+    Refused(u8),
+}
+
+// Packets and captured octets for each queue, of which the first `queues` are in operation; how many packets have no
+// hash, which are counted on queue 0 too; and the total.
+pub struct Counts {
+    pub queues: u8,
+    pub packets: [u32; MAX_QUEUES],
+    pub octets: [u32; MAX_QUEUES],
+    pub unhashed: u32,
+    pub total_packets: u32,
+    pub total_octets: u32,
+}
+
+// Where the answer is a refusal, all counts are 0.
+pub struct Report {
+    pub answer: Answer,
+    pub counts: Counts,
+}
+
+// The report on a settings file and a capture.
+pub fn report_on(settings: &[u8], captured: &[u8]) -> Report
+    ensures { λ r. ⌜ (reportOf r ≡ reportOn (now (settings .entry)) (now (captured .entry))) × (r .counts .queues ≤ maxQueues) ⌝ }
+{
+    if settings.len() > MAX_FILE {
+        return refused(FILE_TOO_LONG);
+    }
+    if captured.len() > MAX_FILE {
+        return refused(FILE_TOO_LONG);
+    }
+    let loaded = load_settings(settings);
+    let answer = loaded.answer;
+    match answer {
+        Answer::Done => report_under(loaded.settings, captured),
+        Answer::Refused(number) => refused(number),
+    }
+}
+
+// The same under settings that are loaded.
+fn report_under(settings: Settings, captured: &[u8]) -> Report
+    requires { ⌜ Good settings × (length (now captured) ≤ maxFile) ⌝ }
+    ensures { λ r. ⌜ (reportOf r ≡ reportUnder settings (now (captured .entry))) × (r .counts .queues ≤ maxQueues) ⌝ }
+{
+    let header = capture::header(captured);
+    match header {
+        HeaderAnswer::Good(link) => count_records(settings, link, captured),
+        HeaderAnswer::Bad => refused(HEADER_WRONG),
+    }
+}
