@@ -3,16 +3,16 @@
 use mathlib.Core.Path.{_≡_, refl, sym, ap, _∙_}
 use mathlib.Core.List.{List, []}
 use mathlib.Core.Bool.{Bool, true, false, cond}
-use Prim.Native.Nat.{ℕ, _+_, _-_, _≤_, _<_}
+use Prim.Native.Nat.{ℕ, _+_, _-_, _≤_}
 use native.Mathlib.Omega.{arith}
 use lib.ListN.{length, take, drop, length-drop, drop-of-length-le}
 use lib.Seq.{drop-drop}
 use lib.Dec.{eqb}
-use borrow.Author.Tests.{eqb-true, eqb-false, ne-eqb}
-use Rattle.octets.specs.Outcome.{Outcome, value, refused}
-use Rattle.octets.proofs.Outcomes.{value-same, refused-same, value-not-refused}
+use borrow.Author.Tests.{eqb-true}
+use Rattle.octets.specs.Outcome.{value, refused}
+use Rattle.octets.proofs.Outcomes.{value-same, value-not-refused}
 use Rattle.capture.specs.Header.{orderOf}
-use Rattle.capture.specs.Records.{recordWrong, recordHeader, capturedLength, beginsRecord, Next, noMore, between, stepIn, stepAt}
+use Rattle.capture.specs.Records.{recordWrong, recordHeader, capturedLength, beginsRecord, noMore, between, stepIn, stepAt}
 use Rattle.capture.specs.Records.{noRecord, oneMore, fallOf, allOf}
 use Rattle.capture.proofs.Falls.{begins-fits, fall-next, fall-none, no-octets}
 

@@ -2,7 +2,7 @@
 -- Assumes nothing.
 use mathlib.Core.Path.{_≡_, refl, sym, ap, _∙_}
 use mathlib.Core.List.{List}
-use mathlib.Core.Bool.{true, false, cond, _&&_}
+use mathlib.Core.Bool.{true, false, _&&_}
 use mathlib.Core.Logic.{_⊎_, inl, inr}
 use Prim.Native.Nat.{ℕ, _+_, _-_, _≤_, _<_}
 use native.Mathlib.Omega.{arith}
@@ -10,7 +10,6 @@ use lib.ListN.{length, drop, length-drop}
 use lib.Dec.{leb}
 use borrow.Author.Tests.{le-leb, lt-leb, eq-eqb, ne-eqb}
 use Rattle.octets.specs.Outcome.{value, refused}
-use Rattle.octets.proofs.Truth.{both-true}
 use Rattle.capture.specs.Header.{numberIn, orderOf}
 use Rattle.capture.specs.Records.{recordWrong, recordHeader, maxRecord, capturedLength, beginsRecord, noMore, between, stepIn, stepAt}
 use Rattle.capture.specs.declared.Order.{Order}

@@ -34,15 +34,7 @@ const HEAD: usize = 3;
 pub fn load(buffer: &mut [u8]) -> usize
     ensures { λ r. ⌜ Counts r (now (buffer .exit)) ⌝ }
 {
-    let name = b"cases";
-    let file = os::open_read(name);
-    if file < 0 {
-        os::fail(name);
-        return 0;
-    }
-    let n = io::read_full(file, buffer);
-    libc::close(file);
-    n
+    files::read(b"cases", buffer)
 }
 
 // The case that begins at `at`.

@@ -3,7 +3,7 @@
 use mathlib.Core.Path.{_≡_, refl, sym, ap, _∙_}
 use mathlib.Core.List.{List, [], _∷_}
 use mathlib.Core.Bool.{Bool, true, false, cond}
-use Prim.Native.Nat.{ℕ, _+_, _*_, _^_, _≤_, _<_}
+use Prim.Native.Nat.{ℕ, _+_, _≤_, _<_}
 use native.Mathlib.Omega.{arith}
 use lib.ListN.{length, getD, length-set, replicate, getD-replicate}
 use lib.Seq.{getD-set-same, getD-set-other}
@@ -13,7 +13,7 @@ use Rattle.octets.specs.Outcome.{value, refused}
 use Rattle.octets.proofs.Outcomes.{test-refused}
 use Rattle.messages.specs.Settings.{maxQueues}
 use Rattle.messages.specs.declared.Settings.{Settings}
-use Rattle.steering.specs.Steering.{Choice, queueIn}
+use Rattle.steering.specs.Steering.{queueIn}
 use Rattle.capture.specs.Records.{recordWrong, Fall, noRecord, oneMore, allOf, capturedOctets}
 use Rattle.capture.specs.declared.Link.{Link}
 use Rattle.report.specs.Counting.{choiceFor, isUnhashed, unhashedOf, onQueue, rising, Tally, tallyOf, Counted, countedOver}

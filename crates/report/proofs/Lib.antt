@@ -4,3 +4,5 @@ pub mod Firsts
 pub mod Tallies
 pub mod Counters
 pub mod Orders
+pub mod Sums
+pub mod Theorems

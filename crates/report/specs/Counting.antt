@@ -2,7 +2,7 @@
 -- Assumes nothing.
 use mathlib.Core.List.{List, [], _∷_}
 use mathlib.Core.Bool.{Bool, true, false, cond}
-use Prim.Native.Nat.{ℕ, zero, suc}
+use Prim.Native.Nat.{ℕ, zero, suc, _+_}
 use lib.ListN.{length}
 use lib.Dec.{eqb}
 use Rattle.messages.specs.declared.Settings.{Settings}
@@ -58,3 +58,8 @@ countedOver s link rs =
       unhashed = length (unhashedOf s link rs);
       total = tallyOf rs;
     }
+
+-- tallies added up
+unfoldable pub sumOf : List Tally → Tally
+sumOf [] = record { packets = 0; octets = 0 }
+sumOf (t ∷ ts) = record { packets = t .packets + sumOf ts .packets; octets = t .octets + sumOf ts .octets }

@@ -11,7 +11,7 @@ use Rattle.capture.specs.Header.{headerOutcome}
 use Rattle.capture.specs.Records.{recordsOutcome}
 use Rattle.capture.specs.declared.Link.{Link}
 use Rattle.report.specs.Loading.{settingsOutcome}
-use Rattle.report.specs.Counting.{Tally, rising, Counted, countedOver}
+use Rattle.report.specs.Counting.{rising, Counted, countedOver}
 use Rattle.report.specs.declared.Answer.{Answer}
 use Rattle.report.specs.declared.Answer.the-variants.{Done, Refused}
 use Rattle.report.specs.declared.Counts.{Counts}

@@ -111,8 +111,9 @@ fn count_record(
     let packet = capture::ip_part(link, frame);
     let choice = backend::steer_in_place(flags, key, entries, count, packet);
     let on = queue(choice);
+    let length = frame.len() as u32;
     add(packets, on, 1);
-    add(octets, on, frame.len() as u32);
+    add(octets, on, length);
     without_hash(choice)
 }
 

@@ -26,6 +26,16 @@ prints {t} {r} {xs} e a =
     let text : textOf r ≡ xs = a .text ∙ ap (λ (n : ℕ). take n (t .octets) ++ xs) e in
     record { fits = omega (arith, a .longer, length-take (r .length) (r .octets), ap length text); text = text }
 
+-- growth from a text that prints xs: it leaves the array no more than from an empty one
+pub prints-then : {t r : Text} {xs ys : List ℕ} → Prints t xs → Adds t ys r → Prints r (xs ++ ys)
+prints-then {t} {r} {xs} {ys} p a =
+    let text : textOf r ≡ xs ++ ys = a .text ∙ ap (λ (l : List ℕ). l ++ ys) (p .text) in
+    let held : t .length ≡ length xs = omega (arith, p .fits, length-take (t .length) (t .octets), ap length (p .text)) in
+    record {
+      fits = omega (arith, a .longer, length-append xs ys, length-take (r .length) (r .octets), ap length text);
+      text = text;
+    }
+
 -- a store at the end
 pub adds-octet : (t : Text) (b : ℕ) → t .length < length (t .octets)
     → Adds t (b ∷ []) (record { octets = set (t .octets) (t .length) b; length = t .length + 1 })

@@ -6,17 +6,17 @@ use Prim.Native.Nat.{ℕ, _+_, _≤_}
 use lib.ListN.{length, take}
 use Rattle.text.specs.declared.Text.{Text}
 
--- the most octets that a text holds
+-- the most octets that a text holds: 64 lines of a report's queues, at most 69 each, and two lines more
 abbrev pub capacity : ℕ
-capacity = 160
+capacity = 4608
 
--- the most octets of one line: a word of at most 8, a number of at most 20 digits, and the line's end
+-- the most octets of one line: a word of at most 9, a number of at most 20 digits, and the line's end
 abbrev pub longestLine : ℕ
-longestLine = 29
+longestLine = 30
 
 -- and with the name of a hash type before it, at most 9
 abbrev pub longestTypeLine : ℕ
-longestTypeLine = 38
+longestTypeLine = 39
 
 -- the octets of a text: what stands behind them in the array is free
 abbrev pub textOf : Text → List ℕ

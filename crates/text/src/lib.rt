@@ -13,16 +13,19 @@ mod piece;
 
 use libc::STDOUT_FILENO;
 use line::with_hash;
-use line::with_refusal;
+pub use line::with_number;
+pub use line::with_refusal;
 use line::with_type;
 use line::with_verdict;
+pub use piece::with_decimal;
+pub use piece::with_octets;
 use toeplitz::HashAnswer;
 use toeplitz::KEY_LENGTH;
 use toeplitz::KEY_LENGTH_WRONG;
 use toeplitz::TwoWayAnswer;
 
-// The most octets that a text holds: four lines of the two-way question with room to spare.
-pub const CAPACITY: usize = 160;
+// The most octets that a text holds: the lines of a report on 64 queues with room to spare.
+pub const CAPACITY: usize = 4608;
 
 // The octets of a text are the first `length` ones.
 pub struct Text {
@@ -73,7 +76,7 @@ pub fn verdict_line(answer: TwoWayAnswer) -> Text
     with_verdict(empty(), answer)
 }
 
-fn empty() -> Text
+pub fn empty() -> Text
     ensures { λ r. ⌜ r .length ≡ 0 ⌝ }
 {
     Text {

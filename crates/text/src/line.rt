@@ -59,8 +59,8 @@ pub fn with_refusal(t: Text, number: u32) -> Text
 }
 
 // A word, a number and the line's end.
-fn with_number(t: Text, word: &[u8], number: u64) -> Text
-    requires { ⌜ (length (now word) ≤ 8) × (t .length + longestLine ≤ capacity) ⌝ }
+pub fn with_number(t: Text, word: &[u8], number: u64) -> Text
+    requires { ⌜ (length (now word) ≤ 9) × (t .length + longestLine ≤ capacity) ⌝ }
     ensures { λ r. ⌜ Adds t (numberLine (now (word .entry)) number) r ⌝ }
     ensures { λ r. ⌜ r .length ≤ t .length + longestLine ⌝ }
 {

@@ -1,7 +1,6 @@
 -- `report::report_on` meets its contract: the lengths of the files, then the settings, then the capture.
 -- Assumes nothing.
 use mathlib.Core.Path.{sym, ap, _∙_}
-use Rattle.messages.specs.declared.Settings.{Settings}
 use Rattle.report.specs.Reports.{outcomeOf}
 use Rattle.report.specs.declared.Answer.{Answer}
 use Rattle.report.proofs.Orders.{long-settings, long-capture, settings-refused, settings-loaded}

@@ -13,11 +13,16 @@ returns c = rw (← c .before .u32-at .ensures, ne-eqb _ _ (c .if1 .taken)) refl
 
 returns-2 : tie.Need-returns-2
 unfolding isClassic
-returns-2 c = rw (← c .before .before .before .u32-at .ensures, c .before .before .if1 .left, ← c .before .u16-at .ensures, ne-eqb _ _ (c .if2 .taken)) refl
+returns-2 c =
+    let first = c .before .before in
+    rw (← first .before .u32-at .ensures, first .if1 .left, ← c .before .u16-at .ensures, ne-eqb _ _ (c .if2 .taken)) refl
 
 returns-3 : tie.Need-returns-3
 unfolding isClassic
-returns-3 c = rw (← c .before .before .before .before .u32-at .ensures, c .before .before .before .if1 .left, ← c .before .before .u16-at .ensures, c .before .if2 .left, ← c .u16-at2 .ensures) refl
+returns-3 c =
+    let second = c .before in
+    let first = second .before .before in
+    rw (← first .before .u32-at .ensures, first .if1 .left, ← second .before .u16-at .ensures, second .if2 .left, ← c .u16-at2 .ensures) refl
 
 pub is-classic-spec : {M : Type 1} → statement M
 is-classic-spec =

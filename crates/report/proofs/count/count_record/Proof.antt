@@ -1,8 +1,7 @@
 -- `report::count::count_record` meets its contract: the choice is that of the IP packet in the record.
 -- Assumes nothing.
-use mathlib.Core.Path.{_≡_, sym, ap, ap₂, _∙_}
+use mathlib.Core.Path.{_≡_, ap, _∙_}
 use mathlib.Core.Bool.{cond}
-use mathlib.Core.List.{List}
 use Prim.Native.Nat.{ℕ}
 use lib.ListN.{length, take}
 use Rattle.steering.specs.Steering.{Choice, queueIn, choiceOf, steered}
@@ -63,8 +62,8 @@ count-record-spec =
     (λ c κs. search needs)
     (λ c κs. search needs)
     (λ c κs. search needs)
-    add-requires
     (λ c. search needs)
+    add-requires
     add-requires-2
     (λ c κs. search needs)
     returns)

@@ -2,7 +2,7 @@
 -- are what all records come to.
 -- Assumes nothing.
 use mathlib.Core.Path.{_≡_, sym, ap, subst, _∙_}
-use mathlib.Core.List.{List, []}
+use mathlib.Core.List.{List}
 use Prim.Native.Nat.{ℕ, _+_, _-_, _≤_, _<_}
 use native.Mathlib.Omega.{arith}
 use lib.ListN.{length, take, drop, length-drop}
@@ -14,12 +14,12 @@ use Rattle.messages.specs.declared.Settings.{Settings}
 use Rattle.steering.specs.Steering.{queueIn}
 use Rattle.backend.proofs.Queues.{good-queue}
 use Rattle.capture.specs.Header.{captureHeader, orderOf}
-use Rattle.capture.specs.Records.{Fall, noRecord, oneMore, fallOf, stepOutcomeOf, capturedOctets}
+use Rattle.capture.specs.Records.{Fall, oneMore, fallOf, stepOutcomeOf, capturedOctets}
 use Rattle.capture.specs.Packets.{ipPart}
 use Rattle.capture.specs.declared.Link.{Link}
 use Rattle.capture.proofs.Found.{IsRecord, found-record, found-end, found-bad}
 use Rattle.capture.proofs.Theorems.{records-fill}
-use Rattle.report.specs.Counting.{choiceFor, countedOver}
+use Rattle.report.specs.Counting.{choiceFor}
 use Rattle.report.specs.Inner.{HasRoom}
 use Rattle.report.proofs.Orders.{bad-records, good-records}
 use Rattle.report.proofs.Counters.{Counting, counting-none, counting-room, counting-next, counting-fits, counting-bad, counting-all, counting-done}
@@ -34,12 +34,10 @@ abbrev all-of : List ℕ → Fall
 all-of captured = rest-of captured captureHeader
 
 abbrev Inv-loop : tie.InvT-loop
-Inv-loop settings link captured mapping key entries packets₀ octets₀ unhashed₀ total-packets₀ total-octets₀ at₀ packets octets unhashed total-packets total-octets at =
-    Counting settings link (all-of captured) (rest-of captured at) packets octets unhashed total-packets total-octets
+Inv-loop s link xs mapping key entries ps₀ os₀ u₀ p₀ o₀ at₀ ps os u p o at = Counting s link (all-of xs) (rest-of xs at) ps os u p o
 
 abbrev μ-loop : tie.MeasureT-loop
-μ-loop settings link captured mapping key entries packets₀ octets₀ unhashed₀ total-packets₀ total-octets₀ at₀ packets octets unhashed total-packets total-octets at =
-    length captured - at
+μ-loop s link xs mapping key entries ps₀ os₀ u₀ p₀ o₀ at₀ ps os u p o at = length xs - at
 
 -- where a record was found
 module _ (d : tie.After-known-told Inv-loop μ-loop) where
@@ -125,12 +123,6 @@ module _ (c : tie.After-count-record Inv-loop μ-loop) where
 loop-holds : tie.Need-loop-holds Inv-loop μ-loop
 loop-holds c = let a = c .before .before .before .before .args in counting-none (a .settings) (a .link) (all-of (a .captured .now))
 
-record-at-requires : tie.Need-record-at-requires Inv-loop μ-loop
-record-at-requires c κs = search needs
-
-enum-known-step : tie.Need-enum-known-step Inv-loop μ-loop
-enum-known-step c = search needs
-
 sub-count-record : tie.Need-sub-count-record Inv-loop μ-loop
 sub-count-record c = found (c .before .before) .forward
 
@@ -171,15 +163,6 @@ loop-less c = let f = found (c .before .before .before .before .before .before) 
 loop-again : tie.Need-loop-again Inv-loop μ-loop
 loop-again c = next c
 
-enum-told : tie.Need-enum-told Inv-loop μ-loop
-enum-told c = search needs
-
-enum-told-2 : tie.Need-enum-told-2 Inv-loop μ-loop
-enum-told-2 c = search needs
-
-refused-requires : tie.Need-refused-requires Inv-loop μ-loop
-refused-requires c κs = search needs
-
 returns : tie.Need-returns Inv-loop μ-loop
 returns c =
     let at = c .before .before .before .before in
@@ -213,8 +196,8 @@ count-records-spec =
     Inv-loop
     μ-loop
     loop-holds
-    record-at-requires
-    enum-known-step
+    (λ c κs. search needs)
+    (λ c. search needs)
     sub-count-record
     part-count-record-start
     part-count-record-end
@@ -226,8 +209,8 @@ count-records-spec =
     add-total-octets
     loop-less
     loop-again
-    enum-told
-    enum-told-2
-    refused-requires
+    (λ c. search needs)
+    (λ c. search needs)
+    (λ c κs. search needs)
     returns
     returns-2)

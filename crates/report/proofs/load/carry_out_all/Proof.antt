@@ -1,9 +1,9 @@
 -- `report::load::carry_out_all` meets its contract: what was carried out and what is left come to what all messages come to.
 -- Assumes nothing.
 use mathlib.Core.Path.{_≡_, refl}
-use Prim.Native.Nat.{_-_, _≤_, _<_}
+use Prim.Native.Nat.{_-_, _≤_}
 use native.Mathlib.Omega.{arith}
-use lib.ListN.{length, take, drop, length-drop}
+use lib.ListN.{length, drop, length-drop}
 use lib.Seq.{length-take-le}
 use borrow.Author.Needs.{needs}
 use Rattle.messages.specs.Settings.{Good}
@@ -20,15 +20,6 @@ abbrev μ-loop : tie.MeasureT-loop
 
 loop-holds : tie.Need-loop-holds Inv-loop μ-loop
 loop-holds c = (omega arith, c .before .pre, refl)
-
-sub-carry-out-first : tie.Need-sub-carry-out-first Inv-loop μ-loop
-sub-carry-out-first c = search needs
-
-part-carry-out-first-start : tie.Need-part-carry-out-first-start Inv-loop μ-loop
-part-carry-out-first-start c = search needs
-
-part-carry-out-first-end : tie.Need-part-carry-out-first-end Inv-loop μ-loop
-part-carry-out-first-end c = search needs
 
 carry-out-first-requires : tie.Need-carry-out-first-requires Inv-loop μ-loop
 carry-out-first-requires c κs =
@@ -80,9 +71,9 @@ carry-out-all-spec =
     Inv-loop
     μ-loop
     loop-holds
-    sub-carry-out-first
-    part-carry-out-first-start
-    part-carry-out-first-end
+    (λ c. search needs)
+    (λ c. search needs)
+    (λ c. search needs)
     carry-out-first-requires
     returns
     add-at

@@ -7,7 +7,7 @@ use Prim.Native.Nat.{ℕ, _+_, _-_}
 use native.Mathlib.Omega.{arith}
 use lib.ListN.{length, take, drop}
 use borrow.Author.Tests.{le-leb, lt-leb}
-use Rattle.messages.specs.Wire.{headerSize, typeIn, sizeIn}
+use Rattle.messages.specs.Wire.{headerSize, typeIn, sizeIn, success}
 use Rattle.messages.specs.Requests.{carriedOut}
 use Rattle.messages.specs.declared.Settings.{Settings}
 use Rattle.messages.proofs.Theorems.{ack-fits}
@@ -73,8 +73,9 @@ read-u64-requires c κs =
 returns-3 : tie.Need-returns-3
 returns-3 c =
     let d = c .before .before .before .before .before .before in
+    let nonzero : c .before .read-u64 .result ≡ success → ⊥ = c .if3 .taken in
     first-refused (settings-of d) (file-of d) (kept-of d) (start-of d .pre .0) (whole d) (keeps d) (d .carry-out .result) (carried d)
-    (λ e. c .if3 .taken (c .before .read-u64 .ensures ∙ e))
+    (λ e. nonzero (c .before .read-u64 .ensures ∙ e))
 
 returns-4 : tie.Need-returns-4
 returns-4 c =

@@ -1,9 +1,9 @@
 -- `report::load::kept` meets its contract: what is copied is the payload, unless it is longer.
 -- Assumes nothing.
-use mathlib.Core.Path.{_≡_, refl, ap, _∙_}
-use Prim.Native.Nat.{ℕ, _-_}
+use mathlib.Core.Path.{_≡_, refl, _∙_}
+use Prim.Native.Nat.{_-_}
 use native.Mathlib.Omega.{arith}
-use lib.ListN.{take, replicate}
+use lib.ListN.{replicate}
 use Rattle.messages.specs.Wire.{maxPayload}
 use Rattle.report.proofs.Firsts.{keeps-copied}
 use borrow.Author.Needs.{needs}

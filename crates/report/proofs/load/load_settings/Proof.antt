@@ -29,7 +29,8 @@ module _ (d : tie.After-set-up) where
   answered = d .set-up .ensures .0 ∙ ap setUpOutcome (d .before .queue-count .ensures)
 
 -- and passed
-done : (c : tie.Else1) → let d = c .before .before .before .before in (0 < length (file-of d)) × (settingsFrom (d .set-up .result .interface .settings) (drop 1 (file-of d)) ≡ settingsOutcome (file-of d))
+done : (c : tie.Else1) → let d = c .before .before .before .before in
+    (0 < length (file-of d)) × (settingsFrom (d .set-up .result .interface .settings) (drop 1 (file-of d)) ≡ settingsOutcome (file-of d))
 done c =
     let d = c .before .before .before .before in
     load-done (file-of d) (d .set-up .result .interface) (sym (answered d) ∙ ap (made-or d) (not-false (d .set-up .result .made) (c .if1 .left)))

@@ -1,0 +1,2 @@
+-- The definitions that the contracts of `report_text` cite.
+pub mod ReportLines
