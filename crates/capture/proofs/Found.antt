@@ -89,4 +89,4 @@ module _ (xs : List ℕ) (at : ℕ) where
       let o = orderOf xs in
       let k : ℕ = capturedLength o (drop at xs) in
       let x = tests-bad (eqb (length (drop at xs)) 0) (beginsRecord o (drop at xs)) (at + recordHeader) (at + recordHeader + k) recordWrong n e in
-      rw (fall-none o (drop at xs) (x .1), x .0) refl
+      ap allOf (fall-none o (drop at xs) (x .1)) ∙ ap (λ (t : Bool). cond t (value []) (refused recordWrong)) (x .0)
