@@ -6,4 +6,5 @@ pub mod Falls
 pub mod Found
 pub mod Frames
 pub mod Theorems
+pub mod Exactly
 pub mod Readers

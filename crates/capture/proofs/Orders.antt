@@ -1,14 +1,14 @@
 -- Laws of numbers in either order of octets.
 -- Assumes nothing.
 use mathlib.Core.Path.{_≡_, refl, ap₂}
-use mathlib.Core.List.{List}
-use Prim.Native.Nat.{ℕ, zero, suc, _+_, _*_, _^_}
-use native.Mathlib.Nat.{add-assoc}
+use mathlib.Core.List.{List, _++_}
+use Prim.Native.Nat.{ℕ, zero, suc, _+_, _*_, _^_, _≤_, _<_}
+use native.Mathlib.Nat.{add-zero, add-assoc}
 use native.Mathlib.Omega.{arith}
-use lib.ListN.{getD, drop}
-use lib.Seq.{getD-drop}
+use lib.ListN.{length, getD, take, drop, List·getD-append}
+use lib.Seq.{getD-take, getD-drop}
 use Rattle.octets.specs.Numbers.{numberAt}
-use Rattle.octets.proofs.Numbers.{number-drop}
+use Rattle.octets.proofs.Numbers.{number-same}
 use Rattle.capture.specs.Header.{bigEndianAt, numberIn}
 use Rattle.capture.specs.declared.Order.{Order}
 use Rattle.capture.specs.declared.Order.the-variants.{LowFirst, HighFirst}
@@ -30,12 +30,29 @@ high-four xs i =
     let three : i + 2 + 1 ≡ i + 3 = omega arith in
     rw (two, three) (omega arith)
 
--- a number in a list from a place on
-big-drop : (n k : ℕ) (xs : List ℕ) (i : ℕ) → bigEndianAt n (drop k xs) i ≡ bigEndianAt n xs (k + i)
+-- two lists with equal octets at two places have equal numbers there
+big-same : (n : ℕ) (xs ys : List ℕ) (i j : ℕ) → ((k : ℕ) → k < n → getD xs (i + k) 0 ≡ getD ys (j + k) 0) → bigEndianAt n xs i ≡ bigEndianAt n ys j
 unfolding bigEndianAt
-big-drop zero k xs i = refl
-big-drop (suc n) k xs i = ap₂ (λ (a b : ℕ). a * 256 ^ n + b) (getD-drop k xs i 0) (rw add-assoc (big-drop n k xs (i + 1)))
+big-same zero xs ys i j h = refl
+big-same (suc n) xs ys i j h =
+    let e : getD xs i 0 ≡ getD ys j 0 = simp add-zero at (h 0 (omega arith)) in
+    let further : (k : ℕ) → k < n → getD xs (i + 1 + k) 0 ≡ getD ys (j + 1 + k) 0 = λ k l. rw (next i k, next j k) (h (suc k) (omega arith)) in
+    ap₂ (λ (a b : ℕ). a * 256 ^ n + b) e (big-same n xs ys (i + 1) (j + 1) further)
+  where
+    next : (i k : ℕ) → i + 1 + k ≡ i + suc k
+    next i k = omega arith
 
+pub number-in-same : (o : Order) (n : ℕ) (xs ys : List ℕ) (i j : ℕ) → ((k : ℕ) → k < n → getD xs (i + k) 0 ≡ getD ys (j + k) 0)
+    → numberIn o n xs i ≡ numberIn o n ys j
+number-in-same LowFirst n xs ys i j h = number-same n xs ys i j h
+number-in-same HighFirst n xs ys i j h = big-same n xs ys i j h
+
+-- a number in a list from a place on, and in the front of a list
 pub number-in-drop : (o : Order) (n k : ℕ) (xs : List ℕ) (i : ℕ) → numberIn o n (drop k xs) i ≡ numberIn o n xs (k + i)
-number-in-drop LowFirst n k xs i = number-drop n k xs i
-number-in-drop HighFirst n k xs i = big-drop n k xs i
+number-in-drop o n k xs i = number-in-same o n (drop k xs) xs i (k + i) (λ j l. rw add-assoc (getD-drop k xs (i + j) 0))
+
+pub number-in-take : (o : Order) (n k : ℕ) (xs : List ℕ) (i : ℕ) → i + n ≤ k → numberIn o n (take k xs) i ≡ numberIn o n xs i
+number-in-take o n k xs i h = number-in-same o n (take k xs) xs i i (λ j l. getD-take k xs (i + j) 0 (omega arith))
+
+pub number-in-append : (o : Order) (n : ℕ) (xs ys : List ℕ) (i : ℕ) → i + n ≤ length xs → numberIn o n (xs ++ ys) i ≡ numberIn o n xs i
+number-in-append o n xs ys i h = number-in-same o n (xs ++ ys) xs i i (λ j l. List·getD-append xs ys 0 (i + j) (omega arith))

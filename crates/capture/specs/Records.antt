@@ -2,9 +2,10 @@
 -- captured octets:
 --   0 seconds (4)   4 microseconds (4)   8 captured length (4)   12 original length (4)   16 captured octets
 -- Assumes nothing.
-use mathlib.Core.List.{List, [], _∷_}
+use mathlib.Core.Path.{_≡_}
+use mathlib.Core.List.{List, [], _∷_, _++_}
 use mathlib.Core.Bool.{Bool, cond, _&&_}
-use Prim.Native.Nat.{ℕ, zero, suc, _+_}
+use Prim.Native.Nat.{ℕ, zero, suc, _+_, _≤_}
 use lib.ListN.{length, take, drop}
 use lib.Dec.{eqb, leb}
 use Rattle.octets.specs.Outcome.{Outcome, value, refused}
@@ -83,6 +84,14 @@ allOf f = cond (eqb (length (f .left)) 0) (value (f .records)) (refused recordWr
 
 abbrev pub recordsOutcome : List ℕ → Outcome (List (List ℕ))
 recordsOutcome capture = allOf (fallOf (orderOf capture) (drop captureHeader capture))
+
+-- octets that are records one after the other: each has a header of 16 octets that gives its length, whatever its times and
+-- its original length, and then its octets, at most 2,048
+pub data Holds : Order → List (List ℕ) → List ℕ → Type 0 where
+  holdsNone : (o : Order) → Holds o [] []
+  holdsMore : (o : Order) (header r : List ℕ) (rs : List (List ℕ)) (xs : List ℕ)
+      → length header ≡ recordHeader → capturedLength o header ≡ length r → length r ≤ maxRecord → Holds o rs xs
+      → Holds o (r ∷ rs) (header ++ (r ++ xs))
 
 -- the captured octets of records together
 unfoldable pub capturedOctets : List (List ℕ) → ℕ

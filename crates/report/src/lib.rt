@@ -25,7 +25,7 @@ pub const SETTINGS_WRONG: u8 = 22;
 // The most octets of a file, and the most queues.
 pub const MAX_FILE: usize = 65536;
 
-pub const MAX_QUEUES: usize = 64;
+pub const MAX_QUEUES: usize = backend::MAX_QUEUES as usize;
 
 // Whether there is what was asked for, or the number of the refusal.
 pub enum Answer {
