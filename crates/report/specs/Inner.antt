@@ -12,6 +12,7 @@ use Rattle.messages.specs.declared.Settings.{Settings}
 use Rattle.steering.specs.Steering.{Choice, queueIn}
 use Rattle.report.specs.Loading.{settingsWrong, settingsFrom}
 use Rattle.report.specs.Counting.{isUnhashed}
+use Rattle.report.specs.declared.Counts.{Counts}
 
 -- octets that begin with a message of n octets, which leaves the settings `left`; n is 0 where it is refused
 pub record CarriesFirst (s : Settings) (xs : List ℕ) (n : ℕ) (left : Settings) : Type 0 where
@@ -40,3 +41,15 @@ pub record CountsOne (choice : Choice) (n : ℕ) (packets octets packets′ octe
   pub one : packets′ ≡ addedAt packets (queueIn choice) 1
   pub all : octets′ ≡ addedAt octets (queueIn choice) n
   pub hash : unhashed ≡ cond (isUnhashed choice) 1 0
+
+-- counts by their parts
+abbrev pub countsOf : ℕ → List ℕ → List ℕ → ℕ → ℕ → ℕ → Counts
+countsOf queues packets octets unhashed totalPackets totalOctets =
+    record {
+      queues = queues;
+      packets = packets;
+      octets = octets;
+      unhashed = unhashed;
+      «total_packets» = totalPackets;
+      «total_octets» = totalOctets;
+    }

@@ -9,7 +9,7 @@ ghost use Rattle.steering.specs.Steering.{choiceOf, queueIn, steered};
 ghost use Rattle.capture.specs.Packets.{ipPart};
 ghost use Rattle.report.specs.Counting.{isUnhashed};
 ghost use Rattle.report.specs.Reports.{maxFile, reportOver, reportOf};
-ghost use Rattle.report.specs.Inner.{addedAt, HasRoom, CountsOne};
+ghost use Rattle.report.specs.Inner.{addedAt, HasRoom, CountsOne, countsOf};
 use crate::Answer;
 use crate::Counts;
 use crate::MAX_QUEUES;
@@ -33,8 +33,8 @@ pub(crate) fn count_records(settings: Settings, link: Link, captured: &[u8]) -> 
     let mut packets = [0u32; MAX_QUEUES];
     let mut octets = [0u32; MAX_QUEUES];
     let mut unhashed: u32 = 0;
-    let mut total_packets: u32 = 0;
-    let mut total_octets: u32 = 0;
+    let mut records: u32 = 0;
+    let mut total: u32 = 0;
     let mut at = CAPTURE_HEADER;
     loop {
         let step = capture::record_at(captured, at);
@@ -50,22 +50,31 @@ pub(crate) fn count_records(settings: Settings, link: Link, captured: &[u8]) -> 
                     &mut packets,
                     &mut octets,
                 );
-                total_packets += 1;
-                total_octets += (end - start) as u32;
+                records += 1;
+                total += (end - start) as u32;
                 at = end;
             }
-            Step::End => {
-                break;
-            }
-            Step::Bad => {
-                return refused(RECORD_WRONG);
-            }
+            Step::End => break,
+            Step::Bad => return refused(RECORD_WRONG),
         }
     }
+    counted(settings.queues, packets, octets, unhashed, records, total)
+}
+
+fn counted(
+    queues: u8,
+    packets: [u32; MAX_QUEUES],
+    octets: [u32; MAX_QUEUES],
+    unhashed: u32,
+    total_packets: u32,
+    total_octets: u32,
+) -> Report
+    ensures { λ r. ⌜ r ≡ record { answer = Answer.Done; counts = countsOf queues packets octets unhashed «total_packets» «total_octets» } ⌝ }
+{
     Report {
         answer: Answer::Done,
         counts: Counts {
-            queues: settings.queues,
+            queues,
             packets,
             octets,
             unhashed,

@@ -90,19 +90,13 @@ fn carry_out_first(settings: Settings, file: &[u8]) -> First
     ensures { λ r. ⌜ CarriesFirst settings (now (file .entry)) (r .length) (r .settings) ⌝ }
 {
     if file.len() < HEADER {
-        return First {
-            length: 0,
-            settings,
-        };
+        return none_carried(settings);
     }
     let kind = octets::read_u32(file, 0);
     let size = octets::read_u32(file, SIZE_AT);
     let end = HEADER + size as usize;
     if file.len() < end {
-        return First {
-            length: 0,
-            settings,
-        };
+        return none_carried(settings);
     }
     let payload = kept(&file[HEADER..end]);
     let carried = messages::carry_out(settings, kind, size, &payload);
@@ -110,14 +104,21 @@ fn carry_out_first(settings: Settings, file: &[u8]) -> First
     let ack = carried.ack;
     let acked = ack.octets;
     if octets::read_u64(&acked, HEADER) != SUCCESS as u64 {
-        return First {
-            length: 0,
-            settings: left,
-        };
+        return none_carried(left);
     }
     First {
         length: end,
         settings: left,
+    }
+}
+
+// The first message is refused.
+fn none_carried(settings: Settings) -> First
+    ensures { λ r. ⌜ r ≡ record { length = 0; settings = settings } ⌝ }
+{
+    First {
+        length: 0,
+        settings,
     }
 }
 

@@ -77,10 +77,10 @@ module _ (d : tie.After-known-told Inv-loop μ-loop) where
 
   counting : let l = loop-of .loop in
       Counting settings-of link-of (all-of capture-of) (oneMore record-of (rest-of capture-of end-of)) (l .packets) (l .octets) (l .unhashed)
-      (l .total-packets) (l .total-octets)
+      (l .records) (l .total)
   counting =
       let l = loop-of .loop in
-      subst (λ (f : Fall). Counting settings-of link-of (all-of capture-of) f (l .packets) (l .octets) (l .unhashed) (l .total-packets) (l .total-octets))
+      subst (λ (f : Fall). Counting settings-of link-of (all-of capture-of) f (l .packets) (l .octets) (l .unhashed) (l .records) (l .total))
       (found .fall) (l .inv)
 
   below : queueIn (choiceFor settings-of link-of record-of) < maxQueues
@@ -109,14 +109,14 @@ module _ (c : tie.After-count-record Inv-loop μ-loop) where
 
   next : let l = loop-of told .loop in
       Counting (settings-of told) (link-of told) (all-of (capture-of told)) (rest-of (capture-of told) (end-of told)) packets-left octets-left
-      (l .unhashed + c .count-record .result) (l .total-packets + 1) (l .total-octets + (end-of told - first-of told))
+      (l .unhashed + c .count-record .result) (l .records + 1) (l .total + (end-of told - first-of told))
   next =
       counting-next (settings-of told) (link-of told) (all-of (capture-of told)) (rest-of (capture-of told) (end-of told)) (record-of told) _ _ _ _ _
       (counting told) (below told) _ _ _ (c .count-record .ensures) (end-of told - first-of told) (size told)
 
   fits : let l = loop-of told .loop in
-      (l .unhashed + c .count-record .result ≤ 65536) × (l .total-packets + 1 ≤ 65536)
-      × (l .total-octets + (end-of told - first-of told) ≤ 65536)
+      (l .unhashed + c .count-record .result ≤ 65536) × (l .records + 1 ≤ 65536)
+      × (l .total + (end-of told - first-of told) ≤ 65536)
   fits =
       counting-fits (settings-of told) (link-of told) (all-of (capture-of told)) (rest-of (capture-of told) (end-of told)) _ _ _ _ _ next (most told)
 
@@ -140,22 +140,22 @@ count-record-requires c κs =
 add-unhashed : tie.Need-add-unhashed Inv-loop μ-loop
 add-unhashed c = let f = fits c .0 in search needs
 
-add-total-packets : tie.Need-add-total-packets Inv-loop μ-loop
-add-total-packets c = let f = fits c .1 in search needs
+add-records : tie.Need-add-records Inv-loop μ-loop
+add-records c = let f = fits c .1 in search needs
 
-sub-total-octets : tie.Need-sub-total-octets Inv-loop μ-loop
-sub-total-octets c = found (c .before .before .before .before .before .before) .forward
+sub-total : tie.Need-sub-total Inv-loop μ-loop
+sub-total c = found (c .before .before .before .before .before .before) .forward
 
-cast-total-octets : tie.Need-cast-total-octets Inv-loop μ-loop
-cast-total-octets c =
+cast-total : tie.Need-cast-total Inv-loop μ-loop
+cast-total c =
     let d = told c in
     let inside = found d .inside in
     let small = start-of d .pre .1 in
     let most-left : end-of d - first-of d ≤ 65536 = omega (arith, inside, small) in
     search needs
 
-add-total-octets : tie.Need-add-total-octets Inv-loop μ-loop
-add-total-octets c = let f = fits c .2 in search needs
+add-total : tie.Need-add-total Inv-loop μ-loop
+add-total c = let f = fits c .2 in search needs
 
 loop-less : tie.Need-loop-less Inv-loop μ-loop
 loop-less c = let f = found (c .before .before .before .before .before .before) in omega (arith, f .start, f .forward, f .inside)
@@ -175,19 +175,18 @@ returns c =
 
 returns-2 : tie.Need-returns-2 Inv-loop μ-loop
 returns-2 c =
-    let at = c .before .before .before in
+    let at = c .before .before .before .before in
     let start = at .before .before .before .before .before in
     let s = start .args .settings in
     let link = start .args .link in
     let xs = start .args .captured .now in
     let l = at .loop in
-    let ended = found-end xs (l .at) (sym (c .before .before .record-at .ensures) ∙ ap stepOutcomeOf (c .enum-told .given .1)) in
+    let ended = found-end xs (l .at) (sym (c .before .before .before .record-at .ensures) ∙ ap stepOutcomeOf (c .before .enum-told .given .1)) in
     let few = start .pre .0 .queues in
-    let done =
-    subst (λ (f : Fall). Counting s link (all-of xs) f (l .packets) (l .octets) (l .unhashed) (l .total-packets) (l .total-octets)) ended (l .inv) in
-    let counted = counting-done s link (all-of xs) (l .packets) (l .octets) (l .unhashed) (l .total-packets) (l .total-octets) few done in
-    let all = counting-all s link (all-of xs) (l .packets) (l .octets) (l .unhashed) (l .total-packets) (l .total-octets) few done in
-    (ap value counted ∙ good-records s link xs (all-of xs .records) all, few)
+    let done = subst (λ (f : Fall). Counting s link (all-of xs) f (l .packets) (l .octets) (l .unhashed) (l .records) (l .total)) ended (l .inv) in
+    let counts = counting-done s link (all-of xs) (l .packets) (l .octets) (l .unhashed) (l .records) (l .total) few done in
+    let all = counting-all s link (all-of xs) (l .packets) (l .octets) (l .unhashed) (l .records) (l .total) few done in
+    rw (c .counted .ensures) (ap value counts ∙ good-records s link xs (all-of xs .records) all, few)
 
 pub count-records-spec : {M : Type 1} → statement M
 count-records-spec =
@@ -203,14 +202,15 @@ count-records-spec =
     part-count-record-end
     count-record-requires
     add-unhashed
-    add-total-packets
-    sub-total-octets
-    cast-total-octets
-    add-total-octets
+    add-records
+    sub-total
+    cast-total
+    add-total
     loop-less
     loop-again
     (λ c. search needs)
     (λ c. search needs)
     (λ c κs. search needs)
     returns
+    (λ c κs. search needs)
     returns-2)

@@ -53,16 +53,19 @@ module _ (d : tie.After-carry-out) where
 
 returns : tie.Need-returns
 returns c =
-    let start = c .before .before in
+    let start = c .before .before .before in
     let xs = start .args .file .now in
-    first-cut (start .args .settings) xs (start .pre .0) (start .pre .1) (lt-leb (messageLength xs) (length xs) (omega (arith, c .if1 .taken)))
+    let cut = lt-leb (messageLength xs) (length xs) (omega (arith, c .before .if1 .taken)) in
+    rw (c .none-carried .ensures) (first-cut (start .args .settings) xs (start .pre .0) (start .pre .1) cut)
 
 returns-2 : tie.Need-returns-2
 returns-2 c =
-    let start = c .before .before .before .before .before in
+    let d = c .before .before in
+    let start = d .before .before .before .before in
     let xs = start .args .file .now in
-    let size : c .before .read-u322 .result ≡ sizeIn xs = c .before .read-u322 .ensures in
-    first-cut (start .args .settings) xs (start .pre .0) (start .pre .1) (lt-leb (messageLength xs) (length xs) (omega (arith, c .if2 .taken, size)))
+    let size : d .read-u322 .result ≡ sizeIn xs = d .read-u322 .ensures in
+    let cut = lt-leb (messageLength xs) (length xs) (omega (arith, c .before .if2 .taken, size)) in
+    rw (c .none-carried2 .ensures) (first-cut (start .args .settings) xs (start .pre .0) (start .pre .1) cut)
 
 read-u64-requires : tie.Need-read-u64-requires
 read-u64-requires c κs =
@@ -72,10 +75,13 @@ read-u64-requires c κs =
 
 returns-3 : tie.Need-returns-3
 returns-3 c =
-    let d = c .before .before .before .before .before .before in
-    let nonzero : c .before .read-u64 .result ≡ success → ⊥ = c .if3 .taken in
+    let d = c .before .before .before .before .before .before .before in
+    let status = c .before .before .read-u64 in
+    let nonzero : status .result ≡ success → ⊥ = c .before .if3 .taken in
+    let first =
     first-refused (settings-of d) (file-of d) (kept-of d) (start-of d .pre .0) (whole d) (keeps d) (d .carry-out .result) (carried d)
-    (λ e. nonzero (c .before .read-u64 .ensures ∙ e))
+    (λ e. nonzero (status .ensures ∙ e)) in
+    rw (c .none-carried3 .ensures) first
 
 returns-4 : tie.Need-returns-4
 returns-4 c =
@@ -88,11 +94,13 @@ pub carry-out-first-spec : {M : Type 1} → statement M
 carry-out-first-spec =
     tie.close
     (tie.spec
+    (λ c κs. search needs)
     returns
     (λ c κs. search needs)
     (λ c κs. search needs)
     (λ c. search needs)
     (λ c. search needs)
+    (λ c κs. search needs)
     returns-2
     (λ c. search needs)
     (λ c. search needs)
@@ -102,5 +110,6 @@ carry-out-first-spec =
     (λ c. search needs)
     read-u64-requires
     (λ c. search needs)
+    (λ c κs. search needs)
     returns-3
     returns-4)
