@@ -47,7 +47,10 @@ from-none s = refl
 -- a message that is cut short
 pub from-cut : (s : Settings) (xs : List ℕ) → 0 < length xs → beginsWhole xs ≡ false → settingsFrom s xs ≡ refused settingsWrong
 unfolding settingsFrom
-from-cut s xs some e = rw (falls-none xs e .1, ne-eqb (length xs) 0 (omega arith)) refl
+from-cut s xs some e =
+    let left : eqb (length (restOf xs)) 0 ≡ false = rw (falls-none xs e .1) (ne-eqb (length xs) 0 (omega arith)) in
+    let after = value (settingsAfter s (messagesIn xs)) in
+    ap (λ (t : Bool). cond (t && allSucceed s (messagesIn xs)) after (refused settingsWrong)) left
 
 module _ (s : Settings) (xs : List ℕ) (whole : beginsWhole xs ≡ true) where
   abbrev first : Carried

@@ -43,7 +43,7 @@ pub(crate) fn load_settings(file: &[u8]) -> Loaded
     carry_out_all(settings, &file[1..])
 }
 
-// The first octet. A missing one is as 0, which is no queue count.
+// The first octet. A missing one counts as 0, which is no queue count.
 fn queue_count(file: &[u8]) -> u32
     ensures { λ r. ⌜ r ≡ getD (now (file .entry)) 0 0 ⌝ }
 {

@@ -119,12 +119,14 @@ module _ {M : Type 1} (𝓤 : URA M) (H : Heap 𝓤) (A : Atoms 𝓤) (mem : Mem
           move ! (1 ∷ []) $ fsplit ! $ move ! (1 ∷ []) $ drop ! $ copied ! (Octets κ) (octets-copy 𝓤 H A W κ) s (v ∷ []) $
           nothing ! $ move ! (1 ∷ 0 ∷ []) $ fjoin ! $ move ! (2 ∷ 0 ∷ []) $ use2 W (raw (Open .pre to-open)) (asked 𝓤 H A W _) $ frame ! $ done !
 
-      goes-moved : (r : Reader) (u : Val) → ent 𝓤 (⋆ 𝓤 H A (‵ (B (κ, tt) .own r (u ∷ [])) ∷ (‵ (flft κ q) ⊛ ‵ ftrue) ∷ [])) (Moved .pre (to-moved r u))
+      goes-moved : (r : Reader) (u : Val)
+          → ent 𝓤 (⋆ 𝓤 H A (‵ (B (κ, tt) .own r (u ∷ [])) ∷ (‵ (flft κ q) ⊛ ‵ ftrue) ∷ [])) (Moved .pre (to-moved r u))
       goes-moved r u =
           qed W (‵ (B (κ, tt) .own r (u ∷ [])) ∷ (‵ (flft κ q) ⊛ ‵ ftrue) ∷ []) ∵
           nothing ! $ number ! n ok $ fjoin ! $ move ! (1 ∷ 0 ∷ []) $ fjoin ! $ move ! (1 ∷ 0 ∷ []) $ by ! (asked 𝓤 H A W _)
 
-      goes-next : (r : Reader) (u : Val) → ent 𝓤 (⋆ 𝓤 H A (‵ (B (κ, tt) .own r (u ∷ [])) ∷ (‵ (flft κ q) ⊛ ‵ ftrue) ∷ [])) (Next .pre (to-next r u))
+      goes-next : (r : Reader) (u : Val)
+          → ent 𝓤 (⋆ 𝓤 H A (‵ (B (κ, tt) .own r (u ∷ [])) ∷ (‵ (flft κ q) ⊛ ‵ ftrue) ∷ [])) (Next .pre (to-next r u))
       goes-next r u =
           qed W (‵ (B (κ, tt) .own r (u ∷ [])) ∷ (‵ (flft κ q) ⊛ ‵ ftrue) ∷ []) ∵
           nothing ! $ move ! (1 ∷ 0 ∷ []) $ fjoin ! $ move ! (1 ∷ 0 ∷ []) $ by ! (asked 𝓤 H A W _)
@@ -137,7 +139,8 @@ module _ {M : Type 1} (𝓤 : URA M) (H : Heap 𝓤) (A : Atoms 𝓤) (mem : Mem
           says ! e $ move ! (1 ∷ []) $ frame ! $ nothing ! $ number ! n ok $ fjoin ! $ move ! (2 ∷ 0 ∷ []) $ fjoin ! $ frame ! $ done !
 
       module _ (C : Calls 𝓤 H) (Λ : Loops 𝓤 H) (fm : FmC 𝓤 H (W .laws) C)
-          (known-open : Triple 𝓤 (C #capture·open) Open) (known-moved : Triple 𝓤 (C #capture·moved) Moved) (known-next : Triple 𝓤 (C #capture·next) Next) where
+          (known-open : Triple 𝓤 (C #capture·open) Open) (known-moved : Triple 𝓤 (C #capture·moved) Moved)
+          (known-next : Triple 𝓤 (C #capture·next) Next) where
         walk : Is (Octets κ) s (v ∷ []) → ent 𝓤 Entry (WpFn 𝓤 H C Λ code.function (v ∷ vint w64 n ∷ []) Post)
         walk is =
             qed W (raw Entry ∷ []) ∵ enter ! C Λ code.function (v ∷ vint w64 n ∷ []) _ $
@@ -152,9 +155,11 @@ module _ {M : Type 1} (𝓤 : URA M) (H : Heap 𝓤) (A : Atoms 𝓤) (mem : Mem
             land ! (from ! (stop !)) (init ! 3 refl (reader-typed 𝓤 H A W αᵉ r u is₁)) $ use2 W (raw (Moved .pre (to-moved r u))) (goes-moved r u) $
             calls-told ! fm moved.ended (moved.clauses 𝓤 H A mem run) known-moved (to-moved r u)
             (λ r′. (r′ .capture ≡ r .capture) × (r′ .at ≡ n)) (λ r′ e′. id⊢ 𝓤 _)
-            (and-then ! (load ! (from ! (stop !)) (look ! 2 refl)) (and-then ! (load ! (from ! (stop !)) (look ! 6 refl)) (no-more !))) (λ u′ r′ e′ is₂.
+            (and-then ! (load ! (from ! (stop !)) (look ! 2 refl)) (and-then ! (load ! (from ! (stop !)) (look ! 6 refl)) (no-more !)))
+            (λ u′ r′ e′ is₂.
             -- [what the struct owns; the token; what s owns; _4; …; room for _3; …; _2; …; _1; …; room for _0; …]
-            land ! (from ! (stop !)) (init ! 5 refl (reader-typed 𝓤 H A W αᵉ r′ u′ is₂)) $ use2 W (raw (Next .pre (to-next r′ u′))) (goes-next r′ u′) $
+            land ! (from ! (stop !)) (init ! 5 refl (reader-typed 𝓤 H A W αᵉ r′ u′ is₂)) $
+            use2 W (raw (Next .pre (to-next r′ u′))) (goes-next r′ u′) $
             calls-told ! fm next.ended (next.clauses 𝓤 H A mem run) known-next (to-next r′ u′)
             (λ t. stepOutcomeOf t ≡ stepAt (now (r′ .capture)) (r′ .at)) (λ t e″. id⊢ 𝓤 _)
             (and-then ! (load ! (from ! (stop !)) (look ! 4 refl)) (no-more !)) (λ u″ t e″ is₃.
@@ -169,18 +174,22 @@ module _ {M : Type 1} (𝓤 : URA M) (H : Heap 𝓤) (A : Atoms 𝓤) (mem : Mem
         → Meets 𝓤 H A record-at.signature (WpFn 𝓤 H (𝓣 .C) (𝓣 .Λ) code.function) (record-at.spec 𝓤 H A mem run)
     record-at-meets 𝓣 known-open known-moved known-next =
         let runs = WpFn 𝓤 H (𝓣 .C) (𝓣 .Λ) code.function in
-        walk-meets 𝓤 H A record-at.ended stayed W (octets-goes 𝓤 H A W, (number-goes 𝓤 H A W, tt)) clauses runs (WpFn-mono 𝓤 H (W .laws) 𝓣 code.function)
+        walk-meets 𝓤 H A record-at.ended stayed W (octets-goes 𝓤 H A W, (number-goes 𝓤 H A W, tt)) clauses runs
+        (WpFn-mono 𝓤 H (W .laws) 𝓣 code.function)
         (walked 𝓤 H A record-at.ended stayed clauses runs
         (λ κs. (slice-vals, (uint-vals w64, tt))) (λ κs. (shr-slice-tells (named 0) (κs .0) u8, (uint-tells w64, tt)))
-        (λ κs qs bounds a g are. via 𝓤 _ (fst∗ 𝓤 _ (emp 𝓤)) (walk (κs .0) (qs .0) (a .0) (a .1 .0) (are .1 .0 .1) (𝓣 .C) (𝓣 .Λ) (fmOf 𝓤 H (W .laws) 𝓣)
-        known-open known-moved known-next (are .0))))
+        (λ κs qs bounds a g are. via 𝓤 _ (fst∗ 𝓤 _ (emp 𝓤)) (walk (κs .0) (qs .0) (a .0) (a .1 .0) (are .1 .0 .1) (𝓣 .C) (𝓣 .Λ)
+        (fmOf 𝓤 H (W .laws) 𝓣) known-open known-moved known-next (are .0))))
 
 pub record-at-spec : {M : Type 1} → stated.statement M
 unfolding code.routine tablesOf
 record-at-spec 𝓤 H 𝓜 𝓖 𝓡 =
     let 𝓣 = tables 𝓤 H 𝓜 𝓡 code.env in
-    entered 𝓤 H (tripleOf 𝓤 H (𝓖 .A) record-at.signature (record-at.spec 𝓤 H (𝓖 .A) (𝓜 .mem) (𝓡 .run))) (𝓣 .C) (𝓣 .Λ) #capture·record-at code.function
-    (code.unfolded 𝓤 H 𝓜 𝓡) (record-at-meets 𝓤 H (𝓖 .A) (𝓜 .mem) (𝓡 .run) (givenOf 𝓤 H 𝓜 𝓖) (tablesOf 𝓤 H 𝓜 𝓣)
-    (cited 𝓤 H (Open 𝓤 H (𝓖 .A) (𝓜 .mem) (𝓡 .run)) 𝓜 𝓡 code.env #capture·open open-def.routine code.calls-capture·reader·open (open-thm.met 𝓤 H 𝓜 𝓖 𝓡))
-    (cited 𝓤 H (Moved 𝓤 H (𝓖 .A) (𝓜 .mem) (𝓡 .run)) 𝓜 𝓡 code.env #capture·moved moved-def.routine code.calls-capture·reader·moved (moved-thm.met 𝓤 H 𝓜 𝓖 𝓡))
-    (cited 𝓤 H (Next 𝓤 H (𝓖 .A) (𝓜 .mem) (𝓡 .run)) 𝓜 𝓡 code.env #capture·next next-def.routine code.calls-capture·reader·next (next-thm.met 𝓤 H 𝓜 𝓖 𝓡)))
+    let A = 𝓖 .A in
+    let mem = 𝓜 .mem in
+    let run = 𝓡 .run in
+    entered 𝓤 H (tripleOf 𝓤 H A record-at.signature (record-at.spec 𝓤 H A mem run)) (𝓣 .C) (𝓣 .Λ) #capture·record-at code.function
+    (code.unfolded 𝓤 H 𝓜 𝓡) (record-at-meets 𝓤 H A mem run (givenOf 𝓤 H 𝓜 𝓖) (tablesOf 𝓤 H 𝓜 𝓣)
+    (cited 𝓤 H (Open 𝓤 H A mem run) 𝓜 𝓡 code.env #capture·open open-def.routine code.calls-capture·reader·open (open-thm.met 𝓤 H 𝓜 𝓖 𝓡))
+    (cited 𝓤 H (Moved 𝓤 H A mem run) 𝓜 𝓡 code.env #capture·moved moved-def.routine code.calls-capture·reader·moved (moved-thm.met 𝓤 H 𝓜 𝓖 𝓡))
+    (cited 𝓤 H (Next 𝓤 H A mem run) 𝓜 𝓡 code.env #capture·next next-def.routine code.calls-capture·reader·next (next-thm.met 𝓤 H 𝓜 𝓖 𝓡)))
