@@ -8,24 +8,14 @@ use native.Mathlib.Omega.{arith}
 use lib.ListN.{length, take, drop}
 use lib.Seq.{take-take}
 use lib.Dec.{lit≤}
-use Rattle.toeplitz.specs.Hash.{keyLength, maxInput, publishedHash, hashOutcome, hashOutcomeOf}
+use Rattle.toeplitz.specs.Hash.{publishedHash}
 use Rattle.toeplitz.specs.TwoWay.{lastType, inputSize}
-use Rattle.toeplitz.specs.declared.HashAnswer.{HashAnswer}
-use Rattle.toeplitz.specs.declared.HashAnswer.the-variants.{Hash}
-use Rattle.toeplitz.proofs.Theorems.{hash-is-published, hash-answer-determined}
 use Rattle.packet.specs.Packets.{PacketType, noType, hashType, kindOf, inputStart, inputOf, none, typed, lookAt, lookOf}
 use Rattle.packet.specs.declared.Found.{Found}
 use Rattle.packet.specs.declared.Found.the-variants.{NotIp, Ip}
 use Rattle.packet.proofs.Theorems.{input-inside, input-length}
 use Rattle.steering.specs.Steering.{isSet, plainType, typeUsed, Choice, unhashed, hashedTo, chosen, steered}
 use Rattle.steering.specs.Inner.{plainSize, steeredIp}
-
--- a hash call with a key of 40 octets and an input that is not too long answers the published hash
-pub always-hash : (key input : List ℕ) (r : HashAnswer) → length key ≡ keyLength → length input ≤ maxInput
-    → hashOutcomeOf r ≡ hashOutcome key input → r ≡ Hash (publishedHash key input)
-always-hash key input r whole short e =
-    hash-answer-determined r (Hash (publishedHash key input))
-    (e ∙ hash-is-published key input (publishedHash key input) .1 (whole, short, refl))
 
 -- the plain type's input is the input of the packet's own type without the ports
 plain-input : (t : ℕ) (p : List ℕ) → t ≤ lastType → take (plainSize t) (inputOf t p) ≡ inputOf (plainType t) p

@@ -9,7 +9,6 @@ ghost use Rattle.toeplitz.specs.TwoWay.{lastType};
 ghost use Rattle.steering.specs.Steering.{Usable, isSet, hashedTo, steered, choiceOf};
 ghost use Rattle.steering.specs.Inner.{OwnInput, steeredIp};
 use packet::Found;
-use toeplitz::HashAnswer;
 
 pub enum Steered {
     // No hash type is used for the packet.
@@ -90,12 +89,7 @@ fn hashed(hash_type: u8, key: &[u8], table: &[u8], input: &[u8]) -> Steered
     requires { ⌜ Usable (now key) (now table) × (length (now input) ≤ maxInput) ⌝ }
     ensures { λ r. ⌜ choiceOf r ≡ hashedTo «hash_type» (publishedHash (now (key .entry)) (now (input .entry))) (now (table .entry)) ⌝ }
 {
-    let answer = toeplitz::hash(key, input);
-    match answer {
-        HashAnswer::Hash(hash) => at_hash(hash_type, hash, table),
-        // Not reached: the key is 40 octets and no input is above 36.
-        HashAnswer::KeyLength | HashAnswer::InputLength => unhashed(),
-    }
+    at_hash(hash_type, toeplitz::hash_of(key, input), table)
 }
 
 // The answer for a type with this hash.

@@ -5,7 +5,8 @@ use mathlib.Core.Path.{_≡_, refl, sym, ap, ap₂, _∙_}
 use mathlib.Core.List.{List}
 use mathlib.Core.Logic.{_↔_, _⊎_, inl, inr}
 use mathlib.Core.Bool.{not, cond}
-use Prim.Native.Nat.{ℕ, zero, suc, _*_, _≤_, _<_}
+use Prim.Native.Nat.{ℕ, zero, suc, _+_, _*_, _≤_, _<_}
+use native.Mathlib.Numerals.{add-one}
 use native.Mathlib.Omega.{arith}
 use lib.ListN.{length, getD}
 use lib.Bits.{bitXor, xor-lt}
@@ -14,7 +15,8 @@ use borrow.Author.Tests.{eq-eqb, ne-eqb, eqb-true, eqb-false, not-true, not-fals
 use Rattle.octets.specs.Numbers.{AreOctets}
 use Rattle.octets.specs.Outcome.{Outcome, value, refused}
 use Rattle.toeplitz.specs.Refusals.{inputTooLong, keyLengthWrong, typeUnknown}
-use Rattle.toeplitz.specs.Hash.{keyLength, maxInput, publishedHash, hashOutcome, hashOutcomeOf}
+use Rattle.toeplitz.specs.Hash.{keyLength, maxInput, bitAt, windowAt, publishedHash, hashOutcome, hashOutcomeOf}
+use Rattle.toeplitz.specs.Inner.{stepped, windowAfter, bitOf, drawnIn}
 use Rattle.toeplitz.specs.Xor.{xorOctets}
 use Rattle.toeplitz.specs.TwoWay.{lastType, inputSize, IsInput, reverseOf, singleBit, EqualHashes, tellsApart}
 use Rattle.toeplitz.specs.TwoWay.{Verdict, agree, differAt, verdict, twoWayOutcome, twoWayOutcomeOf, RepeatsEveryTwo}
@@ -29,6 +31,7 @@ use Rattle.toeplitz.proofs.Outcomes.{value-exactly, key-refused-exactly
 use Rattle.toeplitz.proofs.Period.{repeats-agree}
 use Rattle.toeplitz.proofs.Reverses.{reverse-is-input}
 use Rattle.toeplitz.proofs.TwoWays.{verdict-agree}
+use Rattle.toeplitz.proofs.Windows.{window-next, window-octets, drawn-none, drawn-next}
 
 -- ---- the hash call
 
@@ -81,6 +84,25 @@ hash-linear-in-key k l input x y p q =
 -- (the XOR of octets is octets)
 pub xor-octets : (a b : List ℕ) → AreOctets a → AreOctets b → AreOctets (xorOctets a b)
 xor-octets a b f g i = rw (getD-xor a b i) (xor-lt 8 (getD a i 0) (getD b i 0) (f i) (g i))
+
+-- ---- the step of the window
+
+-- it takes the window at i to that at i + 1, for each i below 288: so far the bit drawn in is one of the key's 320
+pub window-step : (key : List ℕ) → length key ≡ keyLength → (i : ℕ) → i < 288
+    → (i + 32 < length key * 8) × (stepped (windowAt key i) (bitAt key (i + 32)) ≡ windowAt key (i + 1))
+window-step key e i h = (omega arith, sym (window-next key i))
+
+-- so the window at each bit is that of the first four octets after as many steps
+pub window-after-steps : (key : List ℕ) → AreOctets key → (i : ℕ) → windowAfter key i ≡ windowAt key i
+unfolding windowAfter
+window-after-steps key o zero = sym (window-octets key 0 o)
+window-after-steps key o (suc i) =
+    ap (λ (w : ℕ). stepped w (bitAt key (i + 32))) (window-after-steps key o i) ∙ sym (window-next key i) ∙ rw add-one refl
+
+-- and what the hash draws at once for bit j of an octet is j steps, each with the next bit of the key's next octet
+pub drawn-by-steps : (w n : ℕ) → w < 4294967296 → n < 256
+    → (drawnIn w n 0 ≡ w) × ((j : ℕ) → j < 8 → drawnIn w n (suc j) ≡ stepped (drawnIn w n j) (bitOf n j))
+drawn-by-steps w n h o = (drawn-none w n h o, λ j l. drawn-next w n j l o)
 
 -- ---- the two-way call
 

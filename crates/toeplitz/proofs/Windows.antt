@@ -6,12 +6,14 @@ use Prim.Native.Nat.{ℕ, zero, suc, _+_, _*_, _/_, _%_, _^_, _-_, _≤_, _<_}
 use native.Mathlib.Nat.{add-zero, add-suc, add-assoc, mul-assoc, pow-suc}
 use native.Mathlib.Numerals.{add-one}
 use native.Mathlib.Omega.{arith}
-use lib.ListN.{getD}
+use lib.ListN.{length, getD, take}
+use lib.Seq.{length-take-le, getD-take}
 use lib.Pow.{shr-shr, shr-lt, mod-pow-add, mod-mod-pow, high, low}
 use lib.Bits.{bitXor}
 use Rattle.octets.specs.Numbers.{AreOctets}
-use Rattle.toeplitz.specs.Hash.{bitAt, bitsAt, windowAt, whenSet, termAt, xorBelow}
-use Rattle.toeplitz.specs.Inner.{bitOf, drawnIn, fourOctets}
+use Rattle.toeplitz.specs.Hash.{bitAt, bitsAt, windowAt, whenSet, termAt, xorBelow, publishedHash}
+use Rattle.toeplitz.specs.Inner.{stepped, fourOctets, bitOf, drawnIn, hashBelow}
+use Rattle.toeplitz.proofs.Sums.{below-same}
 use Rattle.toeplitz.proofs.Linear.{bitAt-lt}
 
 shift-suc : (a k : ℕ) → a * 2 ^ suc k ≡ a * 2 ^ k * 2
@@ -34,8 +36,8 @@ bits-append xs i n (suc m) =
     ∙ ap₂ (λ (x y : ℕ). x * 2 + y) (bits-append xs i n m) (ap (bitAt xs) (sym (add-assoc i n m)))
     ∙ omega (arith, shift-suc (bitsAt xs i n) m)
 
--- the window at i + 1 is that at i with its top bit dropped and the next key bit drawn in
-pub window-next : (key : List ℕ) (i : ℕ) → windowAt key (i + 1) ≡ windowAt key i % 2147483648 * 2 + bitAt key (i + 32)
+-- the window at i + 1 is the step from that at i with the next key bit
+pub window-next : (key : List ℕ) (i : ℕ) → windowAt key (i + 1) ≡ stepped (windowAt key i) (bitAt key (i + 32))
 unfolding windowAt
 window-next key i =
     let next : bitAt key (i + 1 + 31) ≡ bitAt key (i + 32) = ap (bitAt key) (omega arith) in
@@ -76,8 +78,11 @@ pub low-digits : (a b i j : ℕ) → b < 2 ^ j → (a * 2 ^ j + b) % 2 ^ (i + j)
 low-digits a b i j h =
     mod-pow-add (a * 2 ^ j + b) i j ∙ ap₂ (λ (x y : ℕ). x % 2 ^ i * 2 ^ j + y) (high a j h) (low a j h)
 
--- drawing one bit more is the step to the next window: the top bit goes, and the octet's next bit is drawn in
-drawn-next : (w n j : ℕ) → j < 8 → n < 256 → drawnIn w n (suc j) ≡ drawnIn w n j % 2147483648 * 2 + bitOf n j
+-- drawing no bit leaves a window as it is, and drawing one more is one step more
+pub drawn-none : (w n : ℕ) → w < 4294967296 → n < 256 → drawnIn w n 0 ≡ w
+drawn-none w n h o = omega arith
+
+pub drawn-next : (w n j : ℕ) → j < 8 → n < 256 → drawnIn w n (suc j) ≡ stepped (drawnIn w n j) (bitOf n j)
 drawn-next w n j h o =
     let k = 7 - j in
     let stay : 32 - suc j ≡ k + 24 = omega arith in
@@ -101,17 +106,17 @@ drawn-next w n j h o =
         omega (arith, dropped, shift-suc (w % 2 ^ (k + 24)) j, shr-shr n k 1)
 
 -- so the window at a bit of an octet is that at the octet's top bit with the top bits of the next key octet drawn in
-pub window-drawn : (key : List ℕ) (a j : ℕ) → j ≤ 8 → getD key (a + 4) 0 < 256
+pub window-drawn : (key : List ℕ) (a j : ℕ) → j < 8 → getD key (a + 4) 0 < 256
     → windowAt key (a * 8 + j) ≡ drawnIn (windowAt key (a * 8)) (getD key (a + 4) 0) j
 unfolding windowAt
-window-drawn key a zero h o = rw add-zero (omega (arith, bits-lt key (a * 8) 32))
+window-drawn key a zero h o = rw add-zero (sym (drawn-none (windowAt key (a * 8)) (getD key (a + 4) 0) (bits-lt key (a * 8) 32) o))
 window-drawn key a (suc j) h o =
     let w = windowAt key (a * 8) in
     let n = getD key (a + 4) 0 in
     let next : a * 8 + suc j ≡ a * 8 + j + 1 = omega arith in
     let place : a * 8 + j + 32 ≡ (a + 4) * 8 + j = omega arith in
     rw next (window-next key (a * 8 + j))
-    ∙ ap₂ (λ (x y : ℕ). x % 2147483648 * 2 + y) (window-drawn key a j (omega arith) o)
+    ∙ ap₂ stepped (window-drawn key a j (omega arith) o)
     (ap (bitAt key) place ∙ bit-of-octet key (a + 4) j (7 - j) (omega arith))
     ∙ sym (drawn-next w n j (omega arith) o)
 
@@ -120,3 +125,12 @@ pub sum-next : (key input : List ℕ) (i s b w s′ : ℕ) → s ≡ xorBelow (t
     → w ≡ windowAt key i → s′ ≡ bitXor s (whenSet b w) → s′ ≡ xorBelow (termAt key input) (i + 1)
 unfolding xorBelow termAt
 sum-next key input i s b w s′ r f e g = rw add-one (g ∙ ap₂ bitXor r (ap₂ whenSet f e))
+
+-- the hash of an input's first n octets is the XOR of the windows at the set bits of these
+pub hash-first : (key input : List ℕ) (n : ℕ) → n ≤ length input → publishedHash key (take n input) ≡ hashBelow key input (n * 8)
+unfolding publishedHash termAt
+hash-first key input n h =
+    let same : (i : ℕ) → i < n * 8 → bitAt (take n input) i ≡ bitAt input i = λ i l.
+    ap (λ (x : ℕ). x / 2 ^ (7 - i % 8) % 2) (getD-take n input (i / 8) 0 (omega arith)) in
+    ap (λ (k : ℕ). xorBelow (termAt key (take n input)) (k * 8)) (length-take-le n input h)
+    ∙ below-same (termAt key (take n input)) (termAt key input) (n * 8) (λ i l. ap (λ (b : ℕ). whenSet b (windowAt key i)) (same i l))

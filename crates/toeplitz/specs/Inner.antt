@@ -1,29 +1,37 @@
--- What the private functions promise each other. Nothing here is needed to read the promises of the two calls.
+-- What the private functions promise each other, and the step of the window. Nothing here is needed to read the promises of the two calls.
 -- Assumes nothing.
 use mathlib.Core.Path.{_≡_}
 use mathlib.Core.List.{List}
-use Prim.Native.Nat.{ℕ, _+_, _-_, _*_, _/_, _%_, _^_, _<_}
+use Prim.Native.Nat.{ℕ, zero, suc, _+_, _-_, _*_, _/_, _%_, _^_, _<_}
 use lib.ListN.{getD}
-use Rattle.toeplitz.specs.Hash.{windowAt, termAt, xorBelow}
+use Rattle.toeplitz.specs.Hash.{bitAt, windowAt, termAt, xorBelow}
 use Rattle.toeplitz.specs.declared.directions.Found.{Found}
 use Rattle.toeplitz.specs.declared.directions.Found.the-variants.{At, Nothing}
 
--- bit j of an octet: bit 0 is the top bit
-abbrev pub bitOf : ℕ → ℕ → ℕ
-bitOf octet j = octet / 2 ^ (7 - j) % 2
-
--- a window with its top j bits gone and the top j bits of the next key octet drawn in
-abbrev pub drawnIn : ℕ → ℕ → ℕ → ℕ
-drawnIn window next j = window % 2 ^ (32 - j) * 2 ^ j + next / 2 ^ (8 - j)
+-- the step of the window: its top bit gone, and the next key bit drawn in below the others
+abbrev pub stepped : ℕ → ℕ → ℕ
+stepped window bit = window % 2147483648 * 2 + bit
 
 -- the four octets from octet a on, as a number whose top octet is the first
 abbrev pub fourOctets : List ℕ → ℕ → ℕ
 fourOctets xs a = ((getD xs a 0 * 256 + getD xs (a + 1) 0) * 256 + getD xs (a + 2) 0) * 256 + getD xs (a + 3) 0
 
--- how far a hash is done: the input bits below i, with the window at i and the XOR so far
-pub record Reached (key input : List ℕ) (i window sum : ℕ) : Type 0 where
-  pub here : window ≡ windowAt key i
-  pub so-far : sum ≡ xorBelow (termAt key input) i
+-- the window after i steps from the first four key octets, each with the next key bit
+unfoldable pub windowAfter : List ℕ → ℕ → ℕ
+windowAfter key zero = fourOctets key 0
+windowAfter key (suc i) = stepped (windowAfter key i) (bitAt key (i + 32))
+
+-- bit j of an octet: bit 0 is the top bit
+abbrev pub bitOf : ℕ → ℕ → ℕ
+bitOf octet j = octet / 2 ^ (7 - j) % 2
+
+-- j steps in one: a window with its top j bits gone and the top j bits of the next key octet drawn in
+abbrev pub drawnIn : ℕ → ℕ → ℕ → ℕ
+drawnIn window next j = window % 2 ^ (32 - j) * 2 ^ j + next / 2 ^ (8 - j)
+
+-- the XOR of the windows at the set input bits below i
+abbrev pub hashBelow : List ℕ → List ℕ → ℕ → ℕ
+hashBelow key input i = xorBelow (termAt key input) i
 
 -- the windows at i + k and at m + k are equal at each k below n
 abbrev pub SameBelow : List ℕ → ℕ → ℕ → ℕ → Type 0

@@ -1,16 +1,21 @@
-// The hash: the XOR of the windows at the set input bits, an octet of the input at a time.
+// The hash: the XOR of the windows at the set input bits. Key and input are read in place, and no array is made.
 ghost use mathlib.Core.Path.{_≡_};
 ghost use Prim.Native.Nat.{_+_, _*_, _<_, _≤_};
 ghost use lib.ListN.{length};
 ghost use lib.Bits.{bitXor};
 ghost use Rattle.toeplitz.specs.Hash.{keyLength, maxInput, whenSet, publishedHash, hashOutcome, hashOutcomeOf};
-ghost use Rattle.toeplitz.specs.Inner.{Reached};
+ghost use Rattle.toeplitz.specs.Inner.{hashBelow};
 use crate::HashAnswer;
 use crate::KEY_LENGTH;
 use crate::MAX_INPUT;
+use crate::window::bit_at;
 use crate::window::bit_of;
 use crate::window::drawn;
+use crate::window::next_window;
 use crate::window::octet_window;
+
+// The octets that the compiled code takes at once. The input of every hash type is a multiple of it.
+const GROUP: usize = 4;
 
 // The published hash of the input under the key.
 pub fn hash(key: &[u8], input: &[u8]) -> HashAnswer
@@ -25,24 +30,30 @@ pub fn hash(key: &[u8], input: &[u8]) -> HashAnswer
     HashAnswer::Hash(hash_of(key, input))
 }
 
-// The window at the next input bit, and the XOR so far.
-struct Partial {
-    window: u32,
-    sum: u32,
-}
-
-// The hash of a key and an input that no refusal meets.
-fn hash_of(key: &[u8], input: &[u8]) -> u32
+// The hash of a key and an input that no refusal meets, for a caller that knows their lengths. Parts are lent on,
+// and not the two slices themselves, so that the compiler keeps these in registers.
+pub fn hash_of(key: &[u8], input: &[u8]) -> u32
     requires { ⌜ (length (now key) ≡ keyLength) × (length (now input) ≤ maxInput) ⌝ }
     ensures { λ r. ⌜ r ≡ publishedHash (now (key .entry)) (now (input .entry)) ⌝ }
 {
-    let mut window = octet_window(key, 0);
+    let whole = input.len() / GROUP * GROUP;
+    let mut first: u32 = 0;
+    if input.len() >= GROUP {
+        first = hash_octets(&key[0..key.len()], &input[0..whole]);
+    }
+    hash_rest(&key[0..key.len()], &input[0..input.len()], whole, first)
+}
+
+// The hash, an octet of the input at a time. Each octet's window is read anew, so that no turn waits for the one
+// before it, and the compiler makes of four turns one.
+fn hash_octets(key: &[u8], input: &[u8]) -> u32
+    requires { ⌜ (length (now key) ≡ keyLength) × (length (now input) ≤ maxInput) ⌝ }
+    ensures { λ r. ⌜ r ≡ publishedHash (now (key .entry)) (now (input .entry)) ⌝ }
+{
     let mut sum: u32 = 0;
     let mut at: usize = 0;
     while at < input.len() {
-        let p = add_octet(key, input, at, Partial { window, sum });
-        window = p.window;
-        sum = p.sum;
+        sum = add_octet(key, input, at, sum);
         at += 1;
     }
     sum
@@ -50,24 +61,39 @@ fn hash_of(key: &[u8], input: &[u8]) -> u32
 
 // The eight input bits of the octet at `at`. Each bit's window is drawn from the window at the top bit and the
 // key's next octet, so that none waits for the one before it.
-fn add_octet(key: &[u8], input: &[u8], at: usize, p: Partial) -> Partial
+fn add_octet(key: &[u8], input: &[u8], at: usize, before: u32) -> u32
     requires { ⌜ (length (now key) ≡ keyLength) × (at < length (now input)) × (at < maxInput) ⌝ }
-    requires { ⌜ Reached (now key) (now input) (at * 8) (p .window) (p .sum) ⌝ }
-    ensures { λ r. ⌜ Reached (now (key .entry)) (now (input .entry)) (at * 8 + 8) (r .window) (r .sum) ⌝ }
+    requires { ⌜ before ≡ hashBelow (now key) (now input) (at * 8) ⌝ }
+    ensures { λ r. ⌜ r ≡ hashBelow (now (key .entry)) (now (input .entry)) (at * 8 + 8) ⌝ }
 {
     let octet = input[at];
     let next = key[at + 4];
-    let window = p.window;
-    let mut sum = p.sum;
+    let window = octet_window(key, at);
+    let mut sum = before;
     let mut j: usize = 0;
     while j < 8 {
         sum = add_window(sum, bit_of(octet, j), drawn(window, next, j));
         j += 1;
     }
-    Partial {
-        window: drawn(window, next, 8),
-        sum,
+    sum
+}
+
+// The hash, where the input bits of the octets before `at` are added: the bits from there on, with one step of
+// the window for each. Little code and few registers, for the octets that fill no group.
+fn hash_rest(key: &[u8], input: &[u8], at: usize, before: u32) -> u32
+    requires { ⌜ (length (now key) ≡ keyLength) × (length (now input) ≤ maxInput) × (at ≤ length (now input)) ⌝ }
+    requires { ⌜ before ≡ hashBelow (now key) (now input) (at * 8) ⌝ }
+    ensures { λ r. ⌜ r ≡ publishedHash (now (key .entry)) (now (input .entry)) ⌝ }
+{
+    let mut window = octet_window(key, at);
+    let mut sum = before;
+    let mut i: usize = at * 8;
+    while i < input.len() * 8 {
+        sum = add_window(sum, bit_at(input, i), window);
+        window = next_window(key, window, i);
+        i += 1;
     }
+    sum
 }
 
 // The sum with the window added where the bit is set.

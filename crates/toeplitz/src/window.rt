@@ -9,7 +9,7 @@ ghost use Rattle.toeplitz.specs.Inner.{bitOf, drawnIn, fourOctets};
 const TOP_BIT: u32 = 2147483648;
 
 // Bit `i` of the octets, of which bit 0 is the top bit of octet 0.
-fn bit_at(octets: &[u8], i: usize) -> u32
+pub fn bit_at(octets: &[u8], i: usize) -> u32
     requires { ⌜ i < length (now octets) * 8 ⌝ }
     ensures { λ r. ⌜ r ≡ bitAt (now (octets .entry)) i ⌝ }
 {
@@ -34,7 +34,7 @@ pub fn next_window(key: &[u8], window: u32, i: usize) -> u32
 
 // The window with the top `j` bits of the next key octet drawn in: `j` of the steps above in one.
 pub fn drawn(window: u32, next: u8, j: usize) -> u32
-    requires { ⌜ j ≤ 8 ⌝ }
+    requires { ⌜ j < 8 ⌝ }
     ensures { λ r. ⌜ r ≡ drawnIn window next j ⌝ }
 {
     (window << j) | (wide(next) >> (8 - j))

@@ -1,18 +1,20 @@
 -- `toeplitz::hashing::hash` meets its contract: the tests on the way to each return pick the case of `hashOutcome`.
 -- Assumes nothing.
-use mathlib.Core.Path.{ap}
+use mathlib.Core.Path.{_≡_, ap}
 use Prim.Native.Nat.{_<_}
 use native.Mathlib.Omega.{arith}
 use lib.ListN.{length}
 use borrow.Author.Needs.{needs}
 use borrow.Author.Tests.{eq-eqb, ne-eqb, le-leb, lt-leb}
 use Rattle.octets.specs.Outcome.{value}
-use Rattle.toeplitz.specs.Hash.{maxInput}
+use Rattle.toeplitz.specs.Hash.{keyLength, maxInput}
 use Rattle.toeplitz.proofs.hashing.hash.Statement.{statement}
 use Rattle.toeplitz.proofs.hashing.hash.Tie as tie
 
 returns : tie.Need-returns
-returns c = simp (ne-eqb _ _ (c .if1 .taken))
+returns c =
+    let other : length (c .before .before .before .args .key .now) ≡ keyLength → ⊥ = c .if1 .taken in
+    simp (ne-eqb _ _ other)
 
 returns-2 : tie.Need-returns-2
 returns-2 c =
