@@ -203,6 +203,26 @@ wrong_rules! {
             Written.window(key, i + 1)
         }
     }
+    Hash, "the last octet is left out": {
+        fn published_hash(&self, key: &[u8], input: &[u8]) -> u32 {
+            Written.published_hash(key, &input[..input.len().saturating_sub(1)])
+        }
+    }
+    Hash, "octets that fill no group of four are left out": {
+        fn published_hash(&self, key: &[u8], input: &[u8]) -> u32 {
+            Written.published_hash(key, &input[..input.len() / 4 * 4])
+        }
+    }
+    Hash, "the first window of each octet is that of octet 1": {
+        fn window(&self, key: &[u8], i: usize) -> u32 {
+            Written.window(key, if i % 8 == 0 { 8 } else { i })
+        }
+    }
+    Hash, "the last bit drawn into a window is the one before": {
+        fn window(&self, key: &[u8], i: usize) -> u32 {
+            Written.window(key, i) & !1 | Written.window(key, i) >> 1 & 1
+        }
+    }
     Hash, "36 octets are too long": {
         fn longest_input(&self) -> usize {
             35

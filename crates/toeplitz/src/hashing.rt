@@ -38,6 +38,7 @@ pub fn hash_of(key: &[u8], input: &[u8]) -> u32
 {
     let whole = input.len() / GROUP * GROUP;
     let mut first: u32 = 0;
+    // With the test the compiler knows that there are whole groups only, and makes no second form of the loop.
     if input.len() >= GROUP {
         first = hash_octets(&key[0..key.len()], &input[0..whole]);
     }

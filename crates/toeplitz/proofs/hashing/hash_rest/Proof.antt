@@ -1,7 +1,7 @@
 -- `toeplitz::hashing::hash_rest` meets its contract. The loop's invariant: the window at i, and the input bits below i are added.
 -- Assumes nothing.
 use mathlib.Core.Path.{_≡_}
-use Prim.Native.Nat.{_≤_, _+_, _*_, _-_}
+use Prim.Native.Nat.{_≤_, _*_, _-_}
 use native.Mathlib.Omega.{arith}
 use borrow.Author.Needs.{needs}
 use lib.ListN.{length}
