@@ -11,3 +11,8 @@ pub data Outcome (A : Type 0) : Type 0 where
 abbrev pub andThen : {A B : Type 0} → Outcome A → (A → Outcome B) → Outcome B
 andThen (value x) f = f x
 andThen (refused n) f = refused n
+
+-- the value, or another where there is none
+abbrev pub valueOr : {A : Type 0} → A → Outcome A → A
+valueOr other (value x) = x
+valueOr other (refused n) = other

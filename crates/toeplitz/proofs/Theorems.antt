@@ -13,10 +13,10 @@ use lib.Bits.{bitXor, xor-lt}
 use lib.Dec.{eqb, lit≤}
 use borrow.Author.Tests.{eq-eqb, ne-eqb, eqb-true, eqb-false, not-true, not-false}
 use Rattle.octets.specs.Numbers.{AreOctets}
-use Rattle.octets.specs.Outcome.{Outcome, value, refused}
+use Rattle.octets.specs.Outcome.{Outcome, value, refused, valueOr}
 use Rattle.toeplitz.specs.Refusals.{inputTooLong, keyLengthWrong, typeUnknown}
 use Rattle.toeplitz.specs.Hash.{keyLength, maxInput, bitAt, windowAt, publishedHash, hashOutcome, hashOutcomeOf}
-use Rattle.toeplitz.specs.Inner.{stepped, windowAfter, bitOf, drawnIn}
+use Rattle.toeplitz.specs.Inner.{stepped, windowAfter}
 use Rattle.toeplitz.specs.Xor.{xorOctets}
 use Rattle.toeplitz.specs.TwoWay.{lastType, inputSize, IsInput, reverseOf, singleBit, EqualHashes, tellsApart}
 use Rattle.toeplitz.specs.TwoWay.{Verdict, agree, differAt, verdict, twoWayOutcome, twoWayOutcomeOf, RepeatsEveryTwo}
@@ -31,7 +31,7 @@ use Rattle.toeplitz.proofs.Outcomes.{value-exactly, key-refused-exactly
 use Rattle.toeplitz.proofs.Period.{repeats-agree}
 use Rattle.toeplitz.proofs.Reverses.{reverse-is-input}
 use Rattle.toeplitz.proofs.TwoWays.{verdict-agree}
-use Rattle.toeplitz.proofs.Windows.{window-next, window-octets, drawn-none, drawn-next}
+use Rattle.toeplitz.proofs.Windows.{window-next, window-octets}
 
 -- ---- the hash call
 
@@ -48,6 +48,11 @@ module _ (key input : List ℕ) where
   -- 7 exactly where the key is, and the input is above 36
   pub hash-refuses-input : (hashOutcome key input ≡ refused inputTooLong) ↔ ((length key ≡ keyLength) × (maxInput < length input))
   hash-refuses-input = limit-refused-exactly (publishedHash key input) inputTooLong key (length input) maxInput (λ q. omega arith)
+
+  -- so a caller that has another number for a refusal gets the published hash wherever neither refusal is met
+  pub hash-or-published : (other : ℕ) → length key ≡ keyLength → length input ≤ maxInput
+      → valueOr other (hashOutcome key input) ≡ publishedHash key input
+  hash-or-published other e h = ap (valueOr other) (hash-is-published (publishedHash key input) .1 (e, h, refl))
 
 -- the reading of an answer keeps answers apart, so the contract leaves no choice
 hash-answer : Outcome ℕ → HashAnswer
@@ -98,11 +103,6 @@ unfolding windowAfter
 window-after-steps key o zero = sym (window-octets key 0 o)
 window-after-steps key o (suc i) =
     ap (λ (w : ℕ). stepped w (bitAt key (i + 32))) (window-after-steps key o i) ∙ sym (window-next key i) ∙ rw add-one refl
-
--- and what the hash draws at once for bit j of an octet is j steps, each with the next bit of the key's next octet
-pub drawn-by-steps : (w n : ℕ) → w < 4294967296 → n < 256
-    → (drawnIn w n 0 ≡ w) × ((j : ℕ) → j < 8 → drawnIn w n (suc j) ≡ stepped (drawnIn w n j) (bitOf n j))
-drawn-by-steps w n h o = (drawn-none w n h o, λ j l. drawn-next w n j l o)
 
 -- ---- the two-way call
 

@@ -2,7 +2,7 @@
 -- Assumes nothing.
 use mathlib.Core.Path.{_≡_}
 use mathlib.Core.List.{List}
-use Prim.Native.Nat.{ℕ, zero, suc, _+_, _-_, _*_, _/_, _%_, _^_, _<_}
+use Prim.Native.Nat.{ℕ, zero, suc, _+_, _*_, _%_, _<_}
 use lib.ListN.{getD}
 use Rattle.toeplitz.specs.Hash.{bitAt, windowAt, termAt, xorBelow}
 use Rattle.toeplitz.specs.declared.directions.Found.{Found}
@@ -20,14 +20,6 @@ fourOctets xs a = ((getD xs a 0 * 256 + getD xs (a + 1) 0) * 256 + getD xs (a + 
 unfoldable pub windowAfter : List ℕ → ℕ → ℕ
 windowAfter key zero = fourOctets key 0
 windowAfter key (suc i) = stepped (windowAfter key i) (bitAt key (i + 32))
-
--- bit j of an octet: bit 0 is the top bit
-abbrev pub bitOf : ℕ → ℕ → ℕ
-bitOf octet j = octet / 2 ^ (7 - j) % 2
-
--- j steps in one: a window with its top j bits gone and the top j bits of the next key octet drawn in
-abbrev pub drawnIn : ℕ → ℕ → ℕ → ℕ
-drawnIn window next j = window % 2 ^ (32 - j) * 2 ^ j + next / 2 ^ (8 - j)
 
 -- the XOR of the windows at the set input bits below i
 abbrev pub hashBelow : List ℕ → List ℕ → ℕ → ℕ

@@ -6,7 +6,7 @@ mod window;
 
 pub use directions::two_way;
 pub use hashing::hash;
-pub use hashing::hash_of;
+pub use hashing::hash_or;
 
 // Octets of a key, the most octets of a hash input, and the highest hash type.
 pub const KEY_LENGTH: usize = 40;

@@ -2,26 +2,27 @@
 ghost use mathlib.Core.Path.{_≡_};
 ghost use Prim.Native.Nat.{_+_, _*_, _<_, _≤_};
 ghost use lib.ListN.{length};
+ghost use lib.Dec.{eqb};
 ghost use Rattle.toeplitz.specs.Hash.{keyLength, bitAt, windowAt};
-ghost use Rattle.toeplitz.specs.Inner.{bitOf, drawnIn, fourOctets};
+ghost use Rattle.toeplitz.specs.Inner.{fourOctets};
 
 // The weight of a window's top bit.
 const TOP_BIT: u32 = 2147483648;
 
 // Bit `i` of the octets, of which bit 0 is the top bit of octet 0.
-pub fn bit_at(octets: &[u8], i: usize) -> u32
+fn bit_at(octets: &[u8], i: usize) -> u32
     requires { ⌜ i < length (now octets) * 8 ⌝ }
     ensures { λ r. ⌜ r ≡ bitAt (now (octets .entry)) i ⌝ }
 {
-    bit_of(octets[i / 8], i % 8)
+    (wide(octets[i / 8]) >> (7 - i % 8)) % 2
 }
 
-// Bit `j` of an octet, of which bit 0 is the top bit.
-pub fn bit_of(octet: u8, j: usize) -> u32
-    requires { ⌜ j < 8 ⌝ }
-    ensures { λ r. ⌜ r ≡ bitOf octet j ⌝ }
+// Whether bit `i` of the octets is set. It is tested in its octet, which compiled takes less than in a wider number.
+pub fn is_set(octets: &[u8], i: usize) -> bool
+    requires { ⌜ i < length (now octets) * 8 ⌝ }
+    ensures { λ r. ⌜ r ≡ eqb (bitAt (now (octets .entry)) i) 1 ⌝ }
 {
-    wide(octet >> (7 - j)) % 2
+    (octets[i / 8] >> (7 - i % 8)) % 2 == 1
 }
 
 // The window at `i + 1`, from the window at `i`: the top bit goes, and the next key bit is drawn in.
@@ -30,14 +31,6 @@ pub fn next_window(key: &[u8], window: u32, i: usize) -> u32
     ensures { λ r. ⌜ r ≡ windowAt (now (key .entry)) (i + 1) ⌝ }
 {
     window % TOP_BIT * 2 + bit_at(key, i + 32)
-}
-
-// The window with the top `j` bits of the next key octet drawn in: `j` of the steps above in one.
-pub fn drawn(window: u32, next: u8, j: usize) -> u32
-    requires { ⌜ j < 8 ⌝ }
-    ensures { λ r. ⌜ r ≡ drawnIn window next j ⌝ }
-{
-    (window << j) | (wide(next) >> (8 - j))
 }
 
 // The window at the top bit of octet `a`.

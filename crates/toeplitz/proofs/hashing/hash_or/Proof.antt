@@ -1,0 +1,16 @@
+-- `toeplitz::hashing::hash_or` meets its contract: the two tests pick the case of `hashOutcome`.
+-- Assumes nothing.
+use mathlib.Core.Logic.{⊎-elim}
+use borrow.Author.Needs.{needs}
+use borrow.Author.Tests.{eq-eqb, ne-eqb}
+use Rattle.toeplitz.proofs.hashing.hash_or.Statement.{statement}
+use Rattle.toeplitz.proofs.hashing.hash_or.Tie as tie
+
+returns : tie.Need-returns
+returns c = simp (eq-eqb _ _ (c .before .before .if1 .taken), c .before .if2 .taken) (c .hash-of .ensures)
+
+returns-2 : tie.Need-returns-2
+returns-2 c = ⊎-elim (λ w. simp (eq-eqb _ _ (w .0 .taken), w .1 .left)) (λ w. simp (ne-eqb _ _ (w .left))) (c .if1 .came)
+
+pub hash-or-spec : {M : Type 1} → statement M
+hash-or-spec = tie.close (tie.spec (λ c κs. search needs) returns returns-2)
