@@ -1,4 +1,4 @@
--- What readers ask of the two calls, proved of the definitions that their contracts cite: demand 3 whole, the order of
+-- What readers ask of the calls, proved of the definitions that their contracts cite: demand 3 whole, the step of the window, the order of
 -- the refusals, and how to choose a key under which both directions meet.
 -- Assumes nothing.
 use mathlib.Core.Path.{_≡_, refl, sym, ap, ap₂, _∙_}
@@ -15,8 +15,9 @@ use borrow.Author.Tests.{eq-eqb, ne-eqb, eqb-true, eqb-false, not-true, not-fals
 use Rattle.octets.specs.Numbers.{AreOctets}
 use Rattle.octets.specs.Outcome.{Outcome, value, refused, valueOr}
 use Rattle.toeplitz.specs.Refusals.{inputTooLong, keyLengthWrong, typeUnknown}
-use Rattle.toeplitz.specs.Hash.{keyLength, maxInput, bitAt, windowAt, publishedHash, hashOutcome, hashOutcomeOf}
-use Rattle.toeplitz.specs.Inner.{stepped, windowAfter}
+use Rattle.toeplitz.specs.Hash.{keyLength, maxInput, bitAt, windowAt, whenSet, termAt, xorBelow, publishedHash}
+use Rattle.toeplitz.specs.Hash.{hashOutcome, hashOutcomeOf}
+use Rattle.toeplitz.specs.Step.{stepped, windowAfter}
 use Rattle.toeplitz.specs.Xor.{xorOctets}
 use Rattle.toeplitz.specs.TwoWay.{lastType, inputSize, IsInput, reverseOf, singleBit, EqualHashes, tellsApart}
 use Rattle.toeplitz.specs.TwoWay.{Verdict, agree, differAt, verdict, twoWayOutcome, twoWayOutcomeOf, RepeatsEveryTwo}
@@ -30,6 +31,7 @@ use Rattle.toeplitz.proofs.OneBit.{one-is-input}
 use Rattle.toeplitz.proofs.Outcomes.{value-exactly, key-refused-exactly, limit-refused-exactly}
 use Rattle.toeplitz.proofs.Period.{repeats-agree}
 use Rattle.toeplitz.proofs.Reverses.{reverse-is-input}
+use Rattle.toeplitz.proofs.Sums.{below-same}
 use Rattle.toeplitz.proofs.TwoWays.{verdict-agree}
 use Rattle.toeplitz.proofs.Windows.{window-next, window-octets}
 
@@ -103,6 +105,14 @@ unfolding windowAfter
 window-after-steps key o zero = sym (window-octets key 0 o)
 window-after-steps key o (suc i) =
     ap (λ (w : ℕ). stepped w (bitAt key (i + 32))) (window-after-steps key o i) ∙ sym (window-next key i) ∙ rw add-one refl
+
+-- and the published hash is the XOR of the windows that the steps give, at every set input bit
+pub hash-by-steps : (key input : List ℕ) → AreOctets key
+    → publishedHash key input ≡ xorBelow (λ i. whenSet (bitAt input i) (windowAfter key i)) (length input * 8)
+unfolding publishedHash termAt
+hash-by-steps key input o =
+    below-same (termAt key input) (λ i. whenSet (bitAt input i) (windowAfter key i)) (length input * 8)
+    (λ i h. ap (whenSet (bitAt input i)) (sym (window-after-steps key o i)))
 
 -- ---- the two-way call
 

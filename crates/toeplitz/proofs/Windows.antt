@@ -3,7 +3,7 @@
 use mathlib.Core.Path.{_≡_, refl, sym, ap, ap₂, _∙_}
 use mathlib.Core.List.{List}
 use mathlib.Core.Bool.{Bool, cond}
-use Prim.Native.Nat.{ℕ, zero, suc, _+_, _*_, _/_, _%_, _^_, _-_, _≤_, _<_}
+use Prim.Native.Nat.{ℕ, zero, suc, _+_, _*_, _/_, _%_, _^_, _-_, _<_}
 use native.Mathlib.Nat.{add-zero, add-suc, add-assoc, mul-assoc, pow-suc}
 use native.Mathlib.Numerals.{add-one}
 use native.Mathlib.Omega.{arith}
@@ -13,7 +13,8 @@ use lib.Pow.{shr-shr}
 use lib.Bits.{bitXor, xor-zero-r}
 use Rattle.octets.specs.Numbers.{AreOctets}
 use Rattle.toeplitz.specs.Hash.{bitAt, bitsAt, windowAt, whenSet, termAt, xorBelow}
-use Rattle.toeplitz.specs.Inner.{stepped, fourOctets, hashBelow}
+use Rattle.toeplitz.specs.Step.{stepped, fourOctets}
+use Rattle.toeplitz.specs.Inner.{hashBelow}
 use Rattle.toeplitz.proofs.Linear.{bitAt-lt}
 
 shift-suc : (a k : ℕ) → a * 2 ^ suc k ≡ a * 2 ^ k * 2

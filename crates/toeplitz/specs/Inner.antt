@@ -1,25 +1,11 @@
--- What the private functions promise each other, and the step of the window. Nothing here is needed to read the promises of the two calls.
+-- What the private functions promise each other. Nothing here is needed to read the promises of the calls.
 -- Assumes nothing.
 use mathlib.Core.Path.{_≡_}
 use mathlib.Core.List.{List}
-use Prim.Native.Nat.{ℕ, zero, suc, _+_, _*_, _%_, _<_}
-use lib.ListN.{getD}
-use Rattle.toeplitz.specs.Hash.{bitAt, windowAt, termAt, xorBelow}
+use Prim.Native.Nat.{ℕ, _+_, _<_}
+use Rattle.toeplitz.specs.Hash.{windowAt, termAt, xorBelow}
 use Rattle.toeplitz.specs.declared.directions.Found.{Found}
 use Rattle.toeplitz.specs.declared.directions.Found.the-variants.{At, Nothing}
-
--- the step of the window: its top bit gone, and the next key bit drawn in below the others
-abbrev pub stepped : ℕ → ℕ → ℕ
-stepped window bit = window % 2147483648 * 2 + bit
-
--- the four octets from octet a on, as a number whose top octet is the first
-abbrev pub fourOctets : List ℕ → ℕ → ℕ
-fourOctets xs a = ((getD xs a 0 * 256 + getD xs (a + 1) 0) * 256 + getD xs (a + 2) 0) * 256 + getD xs (a + 3) 0
-
--- the window after i steps from the first four key octets, each with the next key bit
-unfoldable pub windowAfter : List ℕ → ℕ → ℕ
-windowAfter key zero = fourOctets key 0
-windowAfter key (suc i) = stepped (windowAfter key i) (bitAt key (i + 32))
 
 -- the XOR of the windows at the set input bits below i
 abbrev pub hashBelow : List ℕ → List ℕ → ℕ → ℕ

@@ -4,7 +4,7 @@ ghost use Prim.Native.Nat.{_+_, _*_, _<_, _≤_};
 ghost use lib.ListN.{length};
 ghost use lib.Dec.{eqb};
 ghost use Rattle.toeplitz.specs.Hash.{keyLength, bitAt, windowAt};
-ghost use Rattle.toeplitz.specs.Inner.{fourOctets};
+ghost use Rattle.toeplitz.specs.Step.{fourOctets};
 
 // The weight of a window's top bit.
 const TOP_BIT: u32 = 2147483648;

@@ -5,7 +5,7 @@ use borrow.Author.Needs.{needs}
 use Prim.Native.Nat.{_+_}
 use native.Mathlib.Omega.{arith}
 use Rattle.toeplitz.specs.Hash.{bitAt}
-use Rattle.toeplitz.specs.Inner.{stepped}
+use Rattle.toeplitz.specs.Step.{stepped}
 use Rattle.toeplitz.proofs.Linear.{bitAt-lt}
 use Rattle.toeplitz.proofs.Windows.{window-next}
 use Rattle.toeplitz.proofs.window.next_window.Statement.{statement}
