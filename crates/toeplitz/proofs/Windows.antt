@@ -4,13 +4,13 @@ use mathlib.Core.Path.{_≡_, refl, sym, ap, ap₂, _∙_}
 use mathlib.Core.List.{List}
 use mathlib.Core.Bool.{Bool, cond}
 use Prim.Native.Nat.{ℕ, zero, suc, _+_, _*_, _/_, _%_, _^_, _-_, _<_}
-use native.Mathlib.Nat.{add-zero, add-suc, add-assoc, mul-assoc, pow-suc}
+use native.Mathlib.Nat.{add-zero, zero-add, add-suc, add-assoc, zero-mul, mul-assoc, pow-suc}
 use native.Mathlib.Numerals.{add-one}
 use native.Mathlib.Omega.{arith}
 use lib.ListN.{getD}
 use lib.Dec.{eqb}
-use lib.Pow.{shr-shr}
-use lib.Bits.{bitXor, xor-zero-r}
+use lib.Pow.{shr-shr, shr-lt}
+use lib.Bits.{bitOr, bitXor, or-step, or-self, or-zero-r, or-block, xor-zero-r}
 use Rattle.octets.specs.Numbers.{AreOctets}
 use Rattle.toeplitz.specs.Hash.{bitAt, bitsAt, windowAt, whenSet, termAt, xorBelow}
 use Rattle.toeplitz.specs.Step.{stepped, fourOctets}
@@ -73,6 +73,35 @@ window-octets xs a h =
     let at : (n : ℕ) → bitsAt xs (a * 8 + n * 8) 8 ≡ getD xs (a + n) 0 = λ n.
     ap (λ (i : ℕ). bitsAt xs i 8) (omega arith) ∙ octet xs (a + n) (h (a + n)) in
     omega (arith, bits-append xs (a * 8) 24 8, bits-append xs (a * 8) 16 8, bits-append xs (a * 8) 8 8, octet xs a (h a), at 1, at 2, at 3)
+
+-- an OR with the low k digits of a number whose lowest is missing adds this one alone: the others stand there already
+or-lowest : (h t k : ℕ) → t < 2 ^ k → bitOr (h * 2 ^ k + t / 2 * 2) t ≡ h * 2 ^ k + t
+or-lowest h t k f =
+    let half : t / 2 * 2 / 2 ≡ t / 2 = omega arith in
+    let even : t / 2 * 2 % 2 ≡ 0 = omega arith in
+    let low : bitOr (t / 2 * 2) t ≡ t = or-step (t / 2 * 2) t ∙ rw (half, even, or-self (t / 2)) (omega arith) in
+    rw (zero-mul, zero-add) at (or-block k h 0 (t / 2 * 2) t (omega arith) f)
+    ∙ ap₂ (λ (x y : ℕ). x * 2 ^ k + y) (or-zero-r h) low
+
+-- the octet of the next key bit, down to this bit, drawn into the window: the step, since the window has the bits before it in the same places
+pub window-drawn : (key : List ℕ) (i : ℕ) → getD key (i / 8 + 4) 0 < 256
+    → bitOr (windowAt key i % 2147483648 * 2) (getD key (i / 8 + 4) 0 / 2 ^ (7 - i % 8)) ≡ windowAt key (i + 1)
+unfolding windowAt
+window-drawn key i o =
+    let m = i % 8 in
+    let a = i / 8 + 4 in
+    let t = getD key a 0 / 2 ^ (7 - m) in
+    let h = bitsAt key (i + 1) (31 - m) in
+    let sizes : 31 - m + suc m ≡ 32 = omega arith in
+    let eight : suc m + (7 - m) ≡ 8 = omega arith in
+    let place : i + 1 + (31 - m) ≡ a * 8 = omega arith in
+    let low : bitsAt key (i + 1 + (31 - m)) (suc m) ≡ t = rw place (octet-top key a (suc m) (7 - m) eight o) in
+    let next : windowAt key (i + 1) ≡ h * 2 ^ suc m + t =
+    ap (bitsAt key (i + 1)) (sym sizes) ∙ bits-append key (i + 1) (31 - m) (suc m) ∙ ap (λ (x : ℕ). h * 2 ^ suc m + x) low in
+    let fits : t < 2 ^ suc m = shr-lt (suc m) (7 - m) (rw eight o) in
+    let shifted : windowAt key i % 2147483648 * 2 ≡ h * 2 ^ suc m + t / 2 * 2 =
+    omega (arith, next, window-next key i, bitAt-lt key (i + 32), shift-suc h m) in
+    ap (λ (x : ℕ). bitOr x t) shifted ∙ or-lowest h t (suc m) fits ∙ sym next
 
 -- a bit is 0 or 1, so what it adds to a sum is told by the test for 1
 when-set : (s b w : ℕ) → b < 2 → cond (eqb b 1) (bitXor s w) s ≡ bitXor s (whenSet b w)

@@ -9,15 +9,8 @@ ghost use Rattle.toeplitz.specs.Step.{fourOctets};
 // The weight of a window's top bit.
 const TOP_BIT: u32 = 2147483648;
 
-// Bit `i` of the octets, of which bit 0 is the top bit of octet 0.
-fn bit_at(octets: &[u8], i: usize) -> u32
-    requires { ⌜ i < length (now octets) * 8 ⌝ }
-    ensures { λ r. ⌜ r ≡ bitAt (now (octets .entry)) i ⌝ }
-{
-    (wide(octets[i / 8]) >> (7 - i % 8)) % 2
-}
-
-// Whether bit `i` of the octets is set. It is tested in its octet, which compiled takes less than in a wider number.
+// Whether bit `i` of the octets is set; bit 0 is the top bit of octet 0. It is tested in its octet, which compiled takes less
+// than in a wider number.
 pub fn is_set(octets: &[u8], i: usize) -> bool
     requires { ⌜ i < length (now octets) * 8 ⌝ }
     ensures { λ r. ⌜ r ≡ eqb (bitAt (now (octets .entry)) i) 1 ⌝ }
@@ -25,12 +18,13 @@ pub fn is_set(octets: &[u8], i: usize) -> bool
     (octets[i / 8] >> (7 - i % 8)) % 2 == 1
 }
 
-// The window at `i + 1`, from the window at `i`: the top bit goes, and the next key bit is drawn in.
+// The step: the window at `i + 1`, from the window at `i`. The top bit goes, and the next key bit is drawn in. The bits
+// before it in its octet come along unmasked, since the window has them in the same places.
 pub fn next_window(key: &[u8], window: u32, i: usize) -> u32
     requires { ⌜ (length (now key) ≡ keyLength) × (i < 288) × (window ≡ windowAt (now key) i) ⌝ }
     ensures { λ r. ⌜ r ≡ windowAt (now (key .entry)) (i + 1) ⌝ }
 {
-    window % TOP_BIT * 2 + bit_at(key, i + 32)
+    (window % TOP_BIT * 2) | (wide(key[i / 8 + 4]) >> (7 - i % 8))
 }
 
 // The window at the top bit of octet `a`.
