@@ -2,9 +2,13 @@
 pub mod Writing
 pub mod Events
 pub mod Driving
-pub mod Places
+pub mod Forward
+pub mod Spelt
+pub mod Lending
+pub mod Looking
+pub mod Exports
 pub mod Parts
-pub mod Locals
+pub mod InterfaceOpens
+pub mod InterfaceLooks
 pub mod GuestParts
-pub mod GuestLent
 pub mod Theorems

@@ -32,7 +32,47 @@ const REQUEST_OWED: u32 = 2;
 pub extern "C" fn zwerfen_guest_set_up(guest: &mut Guest)
     ensures { λ _. ⌜ now (guest .exit) ≡ guestAtSetup ⌝ }
 {
-    *guest = frontend::set_up();
+    return set_up_on_parts(
+        &mut guest.phase,
+        &mut guest.request,
+        &mut guest.length,
+        &mut guest.written,
+        &mut guest.req_prod,
+        &mut guest.header,
+        &mut guest.payload,
+        &mut guest.taken,
+        &mut guest.rsp_cons,
+    );
+}
+
+// The same of a guest whose parts are lent.
+fn set_up_on_parts<'a>(
+    phase: &'a mut u32,
+    request: &'a mut [u8; MAX_REQUEST],
+    length: &'a mut usize,
+    written: &'a mut usize,
+    req_prod: &'a mut u32,
+    header: &'a mut [u8; HEADER],
+    payload: &'a mut [u8; MAX_ACK_PAYLOAD],
+    taken: &'a mut u64,
+    rsp_cons: &'a mut u32,
+)
+    ensures { λ _. ⌜ guestOf (now (phase .exit)) (now (request .exit)) (now (length .exit)) (now (written .exit))
+        (now («req_prod» .exit)) (now (header .exit)) (now (payload .exit)) (now (taken .exit)) (now («rsp_cons» .exit)) ≡ guestAtSetup ⌝ }
+{
+    let new = frontend::set_up();
+    let new_request = new.request;
+    let new_header = new.header;
+    let new_payload = new.payload;
+    *phase = new.phase;
+    *request = new_request;
+    *length = new.length;
+    *written = new.written;
+    *req_prod = new.req_prod;
+    *header = new_header;
+    *payload = new_payload;
+    *taken = new.taken;
+    *rsp_cons = new.rsp_cons;
 }
 
 // Starts to ask which flags the host supports.
@@ -43,7 +83,6 @@ pub extern "C" fn zwerfen_guest_start_get_flags(guest: &mut Guest, page: &mut [u
         × Good (now (guest .exit)) ⌝ }
 {
     start_get_flags_on_parts(
-        page,
         &mut guest.phase,
         &mut guest.request,
         &mut guest.length,
@@ -53,12 +92,12 @@ pub extern "C" fn zwerfen_guest_start_get_flags(guest: &mut Guest, page: &mut [u
         &mut guest.payload,
         &mut guest.taken,
         &mut guest.rsp_cons,
+        page,
     )
 }
 
 // The same of a guest whose parts are lent.
 fn start_get_flags_on_parts<'a>(
-    page: &mut [u8],
     phase: &'a mut u32,
     request: &'a mut [u8; MAX_REQUEST],
     length: &'a mut usize,
@@ -68,6 +107,7 @@ fn start_get_flags_on_parts<'a>(
     payload: &'a mut [u8; MAX_ACK_PAYLOAD],
     taken: &'a mut u64,
     rsp_cons: &'a mut u32,
+    page: &mut [u8],
 ) -> u32
     requires { ⌜ Good (guestOf (now phase) (now request) (now length) (now written)
         (now «req_prod») (now header) (now payload) (now taken) (now «rsp_cons»)) ⌝ }
@@ -102,8 +142,6 @@ pub extern "C" fn zwerfen_guest_start_set_flags(
         × Good (now (guest .exit)) ⌝ }
 {
     start_set_flags_on_parts(
-        page,
-        flags,
         &mut guest.phase,
         &mut guest.request,
         &mut guest.length,
@@ -113,13 +151,13 @@ pub extern "C" fn zwerfen_guest_start_set_flags(
         &mut guest.payload,
         &mut guest.taken,
         &mut guest.rsp_cons,
+        page,
+        flags,
     )
 }
 
 // The same of a guest whose parts are lent.
 fn start_set_flags_on_parts<'a>(
-    page: &mut [u8],
-    flags: u64,
     phase: &'a mut u32,
     request: &'a mut [u8; MAX_REQUEST],
     length: &'a mut usize,
@@ -129,6 +167,8 @@ fn start_set_flags_on_parts<'a>(
     payload: &'a mut [u8; MAX_ACK_PAYLOAD],
     taken: &'a mut u64,
     rsp_cons: &'a mut u32,
+    page: &mut [u8],
+    flags: u64,
 ) -> u32
     requires { ⌜ Good (guestOf (now phase) (now request) (now length) (now written)
         (now «req_prod») (now header) (now payload) (now taken) (now «rsp_cons»)) ⌝ }
@@ -160,8 +200,6 @@ pub extern "C" fn zwerfen_guest_start_set_key(guest: &mut Guest, page: &mut [u8]
         × Good (now (guest .exit)) ⌝ }
 {
     start_set_key_on_parts(
-        page,
-        key,
         &mut guest.phase,
         &mut guest.request,
         &mut guest.length,
@@ -171,13 +209,13 @@ pub extern "C" fn zwerfen_guest_start_set_key(guest: &mut Guest, page: &mut [u8]
         &mut guest.payload,
         &mut guest.taken,
         &mut guest.rsp_cons,
+        page,
+        key,
     )
 }
 
 // The same of a guest whose parts are lent.
 fn start_set_key_on_parts<'a>(
-    page: &mut [u8],
-    key: &[u8],
     phase: &'a mut u32,
     request: &'a mut [u8; MAX_REQUEST],
     length: &'a mut usize,
@@ -187,6 +225,8 @@ fn start_set_key_on_parts<'a>(
     payload: &'a mut [u8; MAX_ACK_PAYLOAD],
     taken: &'a mut u64,
     rsp_cons: &'a mut u32,
+    page: &mut [u8],
+    key: &[u8],
 ) -> u32
     requires { ⌜ Good (guestOf (now phase) (now request) (now length) (now written)
         (now «req_prod») (now header) (now payload) (now taken) (now «rsp_cons»)) ⌝ }
@@ -223,8 +263,6 @@ pub extern "C" fn zwerfen_guest_start_set_mapping(
         × Good (now (guest .exit)) ⌝ }
 {
     start_set_mapping_on_parts(
-        page,
-        entries,
         &mut guest.phase,
         &mut guest.request,
         &mut guest.length,
@@ -234,13 +272,13 @@ pub extern "C" fn zwerfen_guest_start_set_mapping(
         &mut guest.payload,
         &mut guest.taken,
         &mut guest.rsp_cons,
+        page,
+        entries,
     )
 }
 
 // The same of a guest whose parts are lent.
 fn start_set_mapping_on_parts<'a>(
-    page: &mut [u8],
-    entries: &[u64],
     phase: &'a mut u32,
     request: &'a mut [u8; MAX_REQUEST],
     length: &'a mut usize,
@@ -250,6 +288,8 @@ fn start_set_mapping_on_parts<'a>(
     payload: &'a mut [u8; MAX_ACK_PAYLOAD],
     taken: &'a mut u64,
     rsp_cons: &'a mut u32,
+    page: &mut [u8],
+    entries: &[u64],
 ) -> u32
     requires { ⌜ Good (guestOf (now phase) (now request) (now length) (now written)
         (now «req_prod») (now header) (now payload) (now taken) (now «rsp_cons»)) ⌝ }
@@ -289,9 +329,6 @@ pub extern "C" fn zwerfen_guest_event(
     ensures { λ _. ⌜ now (flags .exit) ≡ flagsOfTold (eventOf (now (guest .entry)) (now (page .entry)) .answer) (now (flags .entry)) ⌝ }
 {
     guest_event_on_parts(
-        page,
-        status,
-        flags,
         &mut guest.phase,
         &mut guest.request,
         &mut guest.length,
@@ -301,14 +338,14 @@ pub extern "C" fn zwerfen_guest_event(
         &mut guest.payload,
         &mut guest.taken,
         &mut guest.rsp_cons,
+        page,
+        status,
+        flags,
     )
 }
 
 // The same of a guest whose parts are lent.
 fn guest_event_on_parts<'a>(
-    page: &mut [u8],
-    status: &mut u32,
-    flags: &mut u32,
     phase: &'a mut u32,
     request: &'a mut [u8; MAX_REQUEST],
     length: &'a mut usize,
@@ -318,6 +355,9 @@ fn guest_event_on_parts<'a>(
     payload: &'a mut [u8; MAX_ACK_PAYLOAD],
     taken: &'a mut u64,
     rsp_cons: &'a mut u32,
+    page: &mut [u8],
+    status: &mut u32,
+    flags: &mut u32,
 ) -> u32
     requires { ⌜ Good (guestOf (now phase) (now request) (now length) (now written)
         (now «req_prod») (now header) (now payload) (now taken) (now «rsp_cons»)) ⌝ }

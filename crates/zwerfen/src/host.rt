@@ -33,53 +33,14 @@ const ACK_OWED: u32 = 2;
 // The refusal of a setup.
 const QUEUES: u32 = 6;
 
-// An interface, and the number that a setup answers.
-pub struct Started {
-    pub interface: Interface,
-    pub number: u32,
-}
-
 // Sets up the interface with this many queues in operation, 1 to 64.
 #[no_mangle]
 pub extern "C" fn zwerfen_set_up(interface: &mut Interface, queues: u32) -> u32
     ensures { λ r. ⌜ (r ≡ numberOf (setUpOutcome queues))
         × (now (interface .exit) ≡ placed itself (setUpOutcome queues) (now (interface .entry))) ⌝ }
 {
-    let started = start(*interface, queues);
-    *interface = started.interface;
-    started.number
-}
-
-// A new interface, or the one held where the number of queues is refused.
-fn start(held: Interface, queues: u32) -> Started
-    ensures { λ r. ⌜ (r .number ≡ numberOf (setUpOutcome queues))
-        × (r .interface ≡ placed itself (setUpOutcome queues) held) ⌝ }
-{
-    let answer = backend::set_up(queues);
-    if answer.made {
-        let interface = answer.interface;
-        return Started {
-            interface,
-            number: DONE,
-        };
-    }
-    Started {
-        interface: held,
-        number: QUEUES,
-    }
-}
-
-// One event of the interface on its page.
-#[no_mangle]
-pub extern "C" fn zwerfen_event(interface: &mut Interface, page: &mut [u8]) -> u32
-    requires { ⌜ Good (now interface) ⌝ }
-    ensures { λ r. ⌜ (left r (now (interface .exit)) (now (page .exit))
-        ≡ eventOf (now (interface .entry)) (now (page .entry)))
-        × Good (now (interface .exit)) ⌝ }
-{
-    event_on_parts(
-        page,
-        interface.settings.queues,
+    set_up_on_parts(
+        &mut interface.settings.queues,
         &mut interface.settings.flags,
         &mut interface.settings.key,
         &mut interface.settings.mapping.entries,
@@ -92,13 +53,13 @@ pub extern "C" fn zwerfen_event(interface: &mut Interface, page: &mut [u8]) -> u
         &mut interface.outgoing.length,
         &mut interface.outgoing.written,
         &mut interface.outgoing.prod,
+        queues,
     )
 }
 
-// The event of an interface whose parts are lent, by the number of its answer.
-fn event_on_parts<'a>(
-    page: &mut [u8],
-    queues: u8,
+// The setup of an interface whose parts are lent. Where the number of queues is refused they stay as they are.
+fn set_up_on_parts<'a>(
+    held: &'a mut u8,
     flags: &'a mut u8,
     key: &'a mut [u8; KEY_LENGTH],
     entries: &'a mut [u8; MAX_ENTRIES],
@@ -111,25 +72,110 @@ fn event_on_parts<'a>(
     ack_length: &'a mut usize,
     written: &'a mut usize,
     rsp_prod: &'a mut u32,
+    queues: u32,
 ) -> u32
-    requires { ⌜ Good (interfaceOf queues (now flags) (now key) (now entries) (now count) (now header)
+    ensures { λ r. ⌜ (r ≡ numberOf (setUpOutcome queues))
+        × (interfaceOf (now (held .exit)) (now (flags .exit)) (now (key .exit)) (now (entries .exit))
+        (now (count .exit)) (now (header .exit)) (now (payload .exit)) (now (taken .exit))
+        (now («req_cons» .exit)) (now (ack .exit)) (now («ack_length» .exit)) (now (written .exit))
+        (now («rsp_prod» .exit))
+        ≡ placed itself (setUpOutcome queues) (interfaceOf (now (held .entry)) (now (flags .entry)) (now (key .entry)) (now (entries .entry))
+        (now (count .entry)) (now (header .entry)) (now (payload .entry)) (now (taken .entry))
+        (now («req_cons» .entry)) (now (ack .entry)) (now («ack_length» .entry)) (now (written .entry))
+        (now («rsp_prod» .entry)))) ⌝ }
+{
+    let answer = backend::set_up(queues);
+    if answer.made {
+        let interface = answer.interface;
+        let settings = interface.settings;
+        let mapping = settings.mapping;
+        let incoming = interface.incoming;
+        let message = incoming.message;
+        let outgoing = interface.outgoing;
+        let new_key = settings.key;
+        let new_entries = mapping.entries;
+        let new_header = message.header;
+        let new_payload = message.payload;
+        let new_ack = outgoing.octets;
+        *held = settings.queues;
+        *flags = settings.flags;
+        *key = new_key;
+        *entries = new_entries;
+        *count = mapping.count;
+        *header = new_header;
+        *payload = new_payload;
+        *taken = message.taken;
+        *req_cons = incoming.cons;
+        *ack = new_ack;
+        *ack_length = outgoing.length;
+        *written = outgoing.written;
+        *rsp_prod = outgoing.prod;
+        return DONE;
+    }
+    QUEUES
+}
+
+// One event of the interface on its page.
+#[no_mangle]
+pub extern "C" fn zwerfen_event(interface: &mut Interface, page: &mut [u8]) -> u32
+    requires { ⌜ Good (now interface) ⌝ }
+    ensures { λ r. ⌜ (left r (now (interface .exit)) (now (page .exit))
+        ≡ eventOf (now (interface .entry)) (now (page .entry)))
+        × Good (now (interface .exit)) ⌝ }
+{
+    event_on_parts(
+        &mut interface.settings.queues,
+        &mut interface.settings.flags,
+        &mut interface.settings.key,
+        &mut interface.settings.mapping.entries,
+        &mut interface.settings.mapping.count,
+        &mut interface.incoming.message.header,
+        &mut interface.incoming.message.payload,
+        &mut interface.incoming.message.taken,
+        &mut interface.incoming.cons,
+        &mut interface.outgoing.octets,
+        &mut interface.outgoing.length,
+        &mut interface.outgoing.written,
+        &mut interface.outgoing.prod,
+        page,
+    )
+}
+
+// The event of an interface whose parts are lent, by the number of its answer.
+fn event_on_parts<'a>(
+    queues: &'a mut u8,
+    flags: &'a mut u8,
+    key: &'a mut [u8; KEY_LENGTH],
+    entries: &'a mut [u8; MAX_ENTRIES],
+    count: &'a mut u8,
+    header: &'a mut [u8; HEADER],
+    payload: &'a mut [u8; MAX_PAYLOAD],
+    taken: &'a mut u64,
+    req_cons: &'a mut u32,
+    ack: &'a mut [u8; MAX_ACK],
+    ack_length: &'a mut usize,
+    written: &'a mut usize,
+    rsp_prod: &'a mut u32,
+    page: &mut [u8],
+) -> u32
+    requires { ⌜ Good (interfaceOf (now queues) (now flags) (now key) (now entries) (now count) (now header)
         (now payload) (now taken) (now «req_cons») (now ack) (now «ack_length») (now written)
         (now «rsp_prod»)) ⌝ }
-    ensures { λ r. ⌜ (left r (interfaceOf queues (now (flags .exit)) (now (key .exit)) (now (entries .exit))
+    ensures { λ r. ⌜ (left r (interfaceOf (now (queues .exit)) (now (flags .exit)) (now (key .exit)) (now (entries .exit))
         (now (count .exit)) (now (header .exit)) (now (payload .exit)) (now (taken .exit))
         (now («req_cons» .exit)) (now (ack .exit)) (now («ack_length» .exit)) (now (written .exit))
         (now («rsp_prod» .exit))) (now (page .exit))
-        ≡ eventOf (interfaceOf queues (now (flags .entry)) (now (key .entry)) (now (entries .entry))
+        ≡ eventOf (interfaceOf (now (queues .entry)) (now (flags .entry)) (now (key .entry)) (now (entries .entry))
         (now (count .entry)) (now (header .entry)) (now (payload .entry)) (now (taken .entry))
         (now («req_cons» .entry)) (now (ack .entry)) (now («ack_length» .entry)) (now (written .entry))
         (now («rsp_prod» .entry))) (now (page .entry)))
-        × Good (interfaceOf queues (now (flags .exit)) (now (key .exit)) (now (entries .exit))
+        × Good (interfaceOf (now (queues .exit)) (now (flags .exit)) (now (key .exit)) (now (entries .exit))
         (now (count .exit)) (now (header .exit)) (now (payload .exit)) (now (taken .exit))
         (now («req_cons» .exit)) (now (ack .exit)) (now («ack_length» .exit)) (now (written .exit))
         (now («rsp_prod» .exit))) ⌝ }
 {
     let answer = backend::event_in_place(
-        queues,
+        *queues,
         flags,
         key,
         entries,
@@ -176,8 +222,8 @@ pub extern "C" fn zwerfen_steer(
         (now (queue .exit)) ⌝ }
 {
     steer_on_parts(
-        interface.settings.flags,
-        interface.settings.mapping.count,
+        &interface.settings.flags,
+        &interface.settings.mapping.count,
         &interface.settings.key,
         &interface.settings.mapping.entries,
         packet,
@@ -189,8 +235,8 @@ pub extern "C" fn zwerfen_steer(
 
 // The packet question of an interface whose key and mapping are lent.
 fn steer_on_parts<'a>(
-    flags: u8,
-    count: u8,
+    flags: &'a u8,
+    count: &'a u8,
     key: &'a [u8; KEY_LENGTH],
     entries: &'a [u8; MAX_ENTRIES],
     packet: &[u8],
@@ -198,12 +244,12 @@ fn steer_on_parts<'a>(
     hash: &mut u32,
     queue: &mut u32,
 ) -> u32
-    requires { ⌜ isListed count ≡ true ⌝ }
-    ensures { λ r. ⌜ Steers (steered flags (now (key .entry)) (take count (now (entries .entry)))
+    requires { ⌜ isListed (now count) ≡ true ⌝ }
+    ensures { λ r. ⌜ Steers (steered (now (flags .entry)) (now (key .entry)) (take (now (count .entry)) (now (entries .entry)))
         (now (packet .entry))) (now («hash_type» .entry)) (now (hash .entry)) r (now («hash_type» .exit))
         (now (hash .exit)) (now (queue .exit)) ⌝ }
 {
-    let answer = backend::steer_in_place(flags, key, entries, count, packet);
+    let answer = backend::steer_in_place(*flags, key, entries, *count, packet);
     match answer {
         Steered::NoType { queue: q } => {
             *queue = q as u32;

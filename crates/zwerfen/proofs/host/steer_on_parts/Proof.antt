@@ -12,12 +12,12 @@ use Rattle.zwerfen.proofs.host.steer_on_parts.Tie as tie
 -- once the packet question has answered a
 module _ (d : tie.After-steer-in-place) (a : Steered) (e : d .steer-in-place .result ≡ a) where
   abbrev start : tie.Start
-  start = d .before .before
+  start = d .before .before .before .before
 
   abbrev choice : Choice
   choice =
       let p = start .args in
-      steered (p .flags) (p .key .now) (take (p .count) (p .entries .now)) (p .packet .now)
+      steered (p .flags .now) (p .key .now) (take (p .count .now) (p .entries .now)) (p .packet .now)
 
   told : let t = start .args .hash-type .now in let h = start .args .hash .now in
       Steers choice t h (choiceNumber (choiceOf a)) (typeTold (choiceOf a) t) (hashTold (choiceOf a) h) (queueIn (choiceOf a))
