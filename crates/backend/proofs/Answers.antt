@@ -20,7 +20,7 @@ use Rattle.backend.specs.States.{queuesWrong, interfaceAtSetup, setUpOut
 use Rattle.backend.specs.Events.{After, waiting, ackWritten, ackOwed, unread, unreadAcks}
 use Rattle.backend.specs.Events.{refusedWith, owes, responded, readIn, carriedOver, proceeded, eventOf, answerNumber}
 use Rattle.backend.specs.Rules.{Accepted, room, afterReading}
-use Rattle.backend.specs.declared.Interface.{Interface}
+use Rattle.backend.specs.States.{HostState}
 use Rattle.backend.specs.declared.EventAnswer.{EventAnswer}
 use Rattle.backend.specs.declared.EventAnswer.the-variants.{Waiting, Written, Owed, PageLength, RequestCount, ResponseCount}
 use Rattle.backend.proofs.Branches.{event-ways, proceeded-cases, event-cases}
@@ -66,7 +66,7 @@ pub event-answer-determined : (a b : EventAnswer) → answerNumber a ≡ answerN
 event-answer-determined a b e = sym (event-answer-back a) ∙ ap event-answer e ∙ event-answer-back b
 
 -- a response answers 1 or 2
-responded-answer : (s : Interface) (page : List ℕ) (n : ℕ) → (responded s page n .answer ≡ ackWritten) ⊎ (responded s page n .answer ≡ ackOwed)
+responded-answer : (s : HostState) (page : List ℕ) (n : ℕ) → (responded s page n .answer ≡ ackWritten) ⊎ (responded s page n .answer ≡ ackOwed)
 unfolding responded
 responded-answer s page n = by (owes (responded s page n .state))
   where
@@ -75,7 +75,7 @@ responded-answer s page n = by (owes (responded s page n .state))
     by false = inl refl
 
 -- 2 where octets are still owed
-responded-owed : (s : Interface) (page : List ℕ) (n : ℕ)
+responded-owed : (s : HostState) (page : List ℕ) (n : ℕ)
     → (responded s page n .answer ≡ ackOwed) ↔ (owes (responded s page n .state) ≡ true)
 unfolding responded
 responded-owed s page n = by (owes (responded s page n .state))
@@ -85,12 +85,12 @@ responded-owed s page n = by (owes (responded s page n .state))
     by false = (λ e. absurd (omega arith), λ e. absurd (false≢true e))
 
 -- reading leaves what is owed
-read-owes : (s : Interface) (page : List ℕ) → owes s ≡ false → owes (afterReading s page) ≡ false
+read-owes : (s : HostState) (page : List ℕ) → owes s ≡ false → owes (afterReading s page) ≡ false
 unfolding readIn
 read-owes s page idle = idle
 
 -- what the answer tells of an event, and what a refusal leaves
-record Told (s : Interface) (page : List ℕ) (a : After) : Type 0 where
+record Told (s : HostState) (page : List ℕ) (a : After) : Type 0 where
   wrong-page : (a .answer ≡ pageWrong) ↔ (length page ≡ pageSize → ⊥)
   wrong-requests : (a .answer ≡ requestsWrong) ↔ ((length page ≡ pageSize) × (areaSize < unread s page))
   wrong-responses : (a .answer ≡ responsesWrong)
@@ -98,7 +98,7 @@ record Told (s : Interface) (page : List ℕ) (a : After) : Type 0 where
   accepted : (a .answer ≤ ackOwed) ↔ Accepted s page
   leaves : ackOwed < a .answer → (a .state ≡ s) × (a .page ≡ page)
 
-module _ (s : Interface) (page : List ℕ) where
+module _ (s : HostState) (page : List ℕ) where
   told-page : (length page ≡ pageSize → ⊥) → Told s page (refusedWith pageWrong s page)
   told-page wrong =
       record {
@@ -146,7 +146,7 @@ module _ (s : Interface) (page : List ℕ) where
       proceeded-cases s page (λ (a : After). a .answer ≤ ackOwed) (λ o. small s) (λ i w. omega arith)
       (λ i w. small (carriedOver (afterReading s page)))
     where
-      small : (t : Interface) → responded t page (room s page) .answer ≤ ackOwed
+      small : (t : HostState) → responded t page (room s page) .answer ≤ ackOwed
       small t = ⊎-elim (λ e. omega arith) (λ e. omega arith) (responded-answer t page (room s page))
 
   told : Told s page (eventOf s page)
@@ -181,7 +181,7 @@ module _ (s : Interface) (page : List ℕ) where
       (λ ok idle part. (λ q. absurd (omega arith), λ x. absurd (false≢true (sym (read-owes s page idle) ∙ x .1))))
       (λ ok idle all. owing-after (carriedOver (afterReading s page)) ok)
     where
-      owing-after : (t : Interface) → Accepted s page
+      owing-after : (t : HostState) → Accepted s page
           → (responded t page (room s page) .answer ≡ ackOwed) ↔ (Accepted s page × (owes (responded t page (room s page) .state) ≡ true))
       owing-after t ok =
           let x = responded-owed t page (room s page) in
@@ -200,5 +200,5 @@ module _ (s : Interface) (page : List ℕ) where
       (λ ok idle part. (λ e. (ok, idle, part), λ x. refl))
       (λ ok idle all. (λ e. absurd (acked (carriedOver (afterReading s page)) e), λ x. absurd (false≢true (sym (x .2) ∙ all))))
     where
-      acked : (t : Interface) → responded t page (room s page) .answer ≡ waiting → ⊥
+      acked : (t : HostState) → responded t page (room s page) .answer ≡ waiting → ⊥
       acked t e = ⊎-elim (λ one. omega arith) (λ two. omega arith) (responded-answer t page (room s page))

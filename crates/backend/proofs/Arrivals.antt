@@ -14,14 +14,14 @@ use Rattle.ring.proofs.Sides.{less-advanced}
 use Rattle.ring.proofs.Holdings.{holding-received, present-most, present-prefix}
 use Rattle.backend.specs.States.{Good}
 use Rattle.backend.specs.Events.{readIn}
-use Rattle.backend.specs.declared.Interface.{Interface}
+use Rattle.backend.specs.States.{HostState}
 
 -- the octets read on the way from s to t
-abbrev pub readTo : Interface → List ℕ → Interface → List ℕ
+abbrev pub readTo : HostState → List ℕ → HostState → List ℕ
 readTo s page t = octetsIn requestsAt page (s .incoming .cons) (less (t .incoming .cons) (s .incoming .cons))
 
 -- of n octets in the area, where `present` is held of the message so far
-module _ (s : Interface) (page : List ℕ) (n : ℕ) (present : List ℕ) (good : Good s) where
+module _ (s : HostState) (page : List ℕ) (n : ℕ) (present : List ℕ) (good : Good s) where
   module _ (held : Holding (s .incoming .message) present) (part : beginsWhole present ≡ false) (most : n ≤ areaSize) where
     abbrev fresh : List ℕ
     fresh = octetsIn requestsAt page (s .incoming .cons) n

@@ -14,9 +14,9 @@ use Rattle.ring.specs.Reading.{whole}
 use Rattle.backend.specs.Events.{After, waiting, unread, unreadAcks}
 use Rattle.backend.specs.Events.{refusedWith, answeredWith, owes, responded, carriedOver, afterRead, proceeded, eventOf}
 use Rattle.backend.specs.Rules.{Accepted, room, afterReading}
-use Rattle.backend.specs.declared.Interface.{Interface}
+use Rattle.backend.specs.States.{HostState}
 
-module _ (s : Interface) (page : List ℕ) (P : After → Type 0) where
+module _ (s : HostState) (page : List ℕ) (P : After → Type 0) where
   pub proceeded-cases :
       (owes s ≡ true → P (responded s page (room s page)))
       → (owes s ≡ false → whole (afterReading s page .incoming .message) ≡ false → P (answeredWith waiting (afterReading s page) page))

@@ -18,7 +18,7 @@ use Rattle.backend.specs.Events.{owes, responded, readIn, carriedOver, e
 use Rattle.backend.specs.Streams.{messagesWithin, restWithin, messagesIn, restOf, settingsAfter, acksTo, owedOctets}
 use Rattle.backend.specs.Streams.{readBy, writtenBy, stateAfter, octetsRead, octetsWritten, Served}
 use Rattle.backend.specs.Rules.{Accepted, room, afterReading}
-use Rattle.backend.specs.declared.Interface.{Interface}
+use Rattle.backend.specs.States.{HostState}
 use Rattle.backend.proofs.Branches.{event-cases}
 use Rattle.backend.proofs.Goodness.{good-interface, good-event, good-carried}
 use Rattle.backend.proofs.Falls.{stream-parts, messages-whole, rest-part, falls-so, empty-part}
@@ -26,7 +26,7 @@ use Rattle.backend.proofs.Arrivals.{readTo}
 use Rattle.backend.proofs.Stages.{writtenTo, Stands, present-long, stands-read, stands-carried, stands-responded}
 
 -- to have served a stream is to stand where it falls apart, whichever way that is found
-stands-served : (q : ℕ) (s : Interface) (read written : List ℕ) (ms : List (List ℕ)) (present : List ℕ)
+stands-served : (q : ℕ) (s : HostState) (read written : List ℕ) (ms : List (List ℕ)) (present : List ℕ)
     → Stands q s read written ms present → beginsWhole present ≡ false → Served q s read written
 stands-served q s read written ms present stands part =
     let falls = falls-so ms present (stands .messages) part in
@@ -38,7 +38,7 @@ stands-served q s read written ms present stands part =
       present = rw rest (stands .held);
     }
 
-served-stands : (q : ℕ) (s : Interface) (read written : List ℕ) → Served q s read written
+served-stands : (q : ℕ) (s : HostState) (read written : List ℕ) → Served q s read written
     → Stands q s read written (messagesIn read) (restOf read)
 served-stands q s read written served =
     record {
@@ -60,7 +60,7 @@ none-in area page c h =
     let none : less c c ≡ 0 = omega arith in
     rw none (octets-none area page c)
 
-module _ (q : ℕ) (s : Interface) (page read written : List ℕ) (good : Good s) (served : Served q s read written) where
+module _ (q : ℕ) (s : HostState) (page read written : List ℕ) (good : Good s) (served : Served q s read written) where
   -- what holds of what an event leaves
   abbrev Serves : After → Type 0
   Serves a = Served q (a .state) (read ++ readTo s page (a .state)) (written ++ writtenTo s a)
@@ -96,7 +96,7 @@ module _ (q : ℕ) (s : Interface) (page read written : List ℕ) (good : Good s
 
   -- octets read
   module _ (ok : Accepted s page) where
-    abbrev after : Interface
+    abbrev after : HostState
     after = afterReading s page
 
     -- the stream then, and what it has behind the messages so far
@@ -131,7 +131,7 @@ module _ (q : ℕ) (s : Interface) (page read written : List ℕ) (good : Good s
         stands-served q _ stream _ one-more [] next (empty-part [] (omega arith))
 
 -- each event serves the octets that it reads, and writes acks in order
-pub served-event : (q : ℕ) (s : Interface) (page read written : List ℕ) → Good s → Served q s read written
+pub served-event : (q : ℕ) (s : HostState) (page read written : List ℕ) → Good s → Served q s read written
     → Served q (eventOf s page .state) (read ++ readBy s page) (written ++ writtenBy s page)
 served-event q s page read written good served =
     let refused = serves-refused q s page read written good served in
@@ -144,7 +144,7 @@ served-event q s page read written good served =
     (λ ok idle all. serves-whole q s page read written good served ok idle all)
 
 -- and so do events one after the other
-served-events : (pages : List (List ℕ)) (q : ℕ) (s : Interface) (read written : List ℕ) → Good s → Served q s read written
+served-events : (pages : List (List ℕ)) (q : ℕ) (s : HostState) (read written : List ℕ) → Good s → Served q s read written
     → Served q (stateAfter s pages) (read ++ octetsRead s pages) (written ++ octetsWritten s pages)
 unfolding stateAfter octetsRead octetsWritten
 served-events [] q s read written good served = rw (append-nil read, append-nil written) served

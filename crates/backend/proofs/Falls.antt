@@ -10,7 +10,7 @@ use lib.Seq.{length-take-le, take-all, drop-at}
 use borrow.Author.Tests.{le-leb, lt-leb, leb-true}
 use Rattle.messages.specs.Wire.{headerSize, sizeIn}
 use Rattle.messages.specs.Requests.{ackIn, carriedMessage}
-use Rattle.messages.specs.declared.Settings.{Settings}
+use Rattle.messages.specs.Settings.{Settings}
 use Rattle.ring.specs.Reading.{messageLength}
 use Rattle.ring.specs.Streams.{beginsWhole, firstMessage, behindFirst}
 use Rattle.ring.proofs.Holdings.{size-append, size-front, first-append}

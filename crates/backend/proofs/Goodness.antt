@@ -18,7 +18,7 @@ use Rattle.ring.proofs.Sides.{grown, none-waits, good-received, good-sent, good
 use Rattle.backend.specs.States.{Good, interfaceAtSetup}
 use Rattle.backend.specs.Events.{After, owes, responded, readIn, carriedOver, unread, eventOf}
 use Rattle.backend.specs.Rules.{afterReading}
-use Rattle.backend.specs.declared.Interface.{Interface}
+use Rattle.backend.specs.States.{HostState}
 use Rattle.backend.proofs.Branches.{event-cases}
 
 -- setup
@@ -32,7 +32,7 @@ good-interface q some most =
     }
 
 -- after writing: less is owed than before
-pub good-responded : (s : Interface) (page : List ℕ) (room : ℕ) → Good s → Good (responded s page room .state)
+pub good-responded : (s : HostState) (page : List ℕ) (room : ℕ) → Good s → Good (responded s page room .state)
 unfolding responded
 good-responded s page room good =
     record {
@@ -43,10 +43,10 @@ good-responded s page room good =
     }
 
 -- after reading
-module _ (s : Interface) (page : List ℕ) (n : ℕ) (good : Good s) where
-  pub read-idle : readIn s page n .outgoing ≡ s .outgoing
+module _ (s : HostState) (page : List ℕ) (n : ℕ) (good : Good s) where
+  pub read-settings : readIn s page n .settings ≡ s .settings
   unfolding readIn
-  read-idle = refl
+  read-settings = refl
 
   pub good-read : owes s ≡ false → whole (readIn s page n .incoming .message) ≡ false → Good (readIn s page n)
   unfolding readIn
@@ -67,7 +67,7 @@ module _ (s : Interface) (page : List ℕ) (n : ℕ) (good : Good s) where
   read-sizes = let g = grown (octetsIn requestsAt page (s .incoming .cons) n) (s .incoming .message) in (g .header, g .payload)
 
 -- after carrying out: the settings are good, the next message begins, and the ack has its place
-module _ (s : Interface) (settings : GoodSettings (s .settings)) (outgoing : GoodOutgoing maxAck (s .outgoing)) where
+module _ (s : HostState) (settings : GoodSettings (s .settings)) (outgoing : GoodOutgoing maxAck (s .outgoing)) where
   good-over : length (s .incoming .message .header) ≡ headerSize → length (s .incoming .message .payload) ≡ maxPayload
       → s .incoming .cons < 2 ^ 32 → Good (carriedOver s)
   unfolding carriedOver
@@ -81,7 +81,7 @@ module _ (s : Interface) (settings : GoodSettings (s .settings)) (outgoing : Goo
         in-turn = λ h. refl;
       }
 
-pub good-carried : (s : Interface) (page : List ℕ) (n : ℕ) → Good s → Good (carriedOver (readIn s page n))
+pub good-carried : (s : HostState) (page : List ℕ) (n : ℕ) → Good s → Good (carriedOver (readIn s page n))
 unfolding readIn receivedFrom
 good-carried s page n good =
     let sizes = read-sizes s page n good in
@@ -89,7 +89,7 @@ good-carried s page n good =
     (sizes .1 ∙ good .incoming .payload) (omega arith)
 
 -- an event
-pub good-event : (s : Interface) (page : List ℕ) → Good s → Good (eventOf s page .state)
+pub good-event : (s : HostState) (page : List ℕ) → Good s → Good (eventOf s page .state)
 good-event s page good =
     event-cases s page (λ (a : After). Good (a .state)) (λ e. good) (λ e r. good) (λ e r a. good)
     (λ ok owing. good-responded s page _ good)

@@ -9,7 +9,7 @@ use lib.Seq.{length-take-le}
 use lib.Pow.{pow-pos}
 use Rattle.toeplitz.specs.Hash.{keyLength}
 use Rattle.messages.specs.Settings.{maxEntries, isListed, tableOf, Good}
-use Rattle.messages.specs.declared.Settings.{Settings}
+use Rattle.messages.specs.Settings.{Settings}
 use Rattle.messages.proofs.Powers.{power-exactly, listed-parts}
 use Rattle.steering.specs.Steering.{Usable, queueIn}
 use Rattle.steering.proofs.Theorems.{queue-below}

@@ -13,32 +13,32 @@ use Rattle.octets.proofs.Numbers.{number-same}
 use Rattle.messages.specs.Wire.{headerSize, maxPayload, typeIn, sizeIn, payloadIn}
 use Rattle.messages.specs.Settings.{settingsAtSetup}
 use Rattle.messages.specs.Requests.{maxAck, ackIn, carriedOut, carriedMessage}
-use Rattle.messages.specs.declared.Settings.{Settings}
-use Rattle.messages.specs.declared.Carried.{Carried}
+use Rattle.messages.specs.Settings.{Settings}
+use Rattle.messages.specs.Requests.{Carried}
 use Rattle.messages.proofs.Theorems.{header-bounds-payload, header-alone}
 use Rattle.ring.specs.Page.{pageSize, areaSize, requestsAt, responsesAt, less, advanced, octetsIn, put}
 use Rattle.ring.specs.Writing.{owed, fitting, sentOctets, GoodOutgoing}
 use Rattle.ring.specs.Reading.{messageLength}
 use Rattle.ring.specs.Streams.{beginsWhole, presentPart, Holding}
-use Rattle.ring.specs.declared.Message.{Message}
-use Rattle.ring.specs.declared.Outgoing.{Outgoing}
+use Rattle.ring.specs.Reading.{Message}
+use Rattle.ring.specs.Writing.{Outgoing}
 use Rattle.ring.proofs.Untouched.{counted-octets, put-stands}
 use Rattle.ring.proofs.Sides.{less-advanced}
 use Rattle.ring.proofs.Holdings.{size-take, part-whole, part-all, holding-none, holding-header}
 use Rattle.backend.specs.States.{Good}
 use Rattle.backend.specs.Events.{After, owes, responded, readIn, carriedIn, carriedOver}
 use Rattle.backend.specs.Streams.{joined, Messages, settingsAfter, acksTo, owedOctets}
-use Rattle.backend.specs.declared.Interface.{Interface}
+use Rattle.backend.specs.States.{HostState}
 use Rattle.backend.proofs.Arrivals.{readTo, read-held, read-octets}
 use Rattle.backend.proofs.Falls.{first-long, joined-snoc, messages-snoc, settings-snoc, acks-snoc}
 
 -- the octets written on the way from s to what an event leaves
-abbrev pub writtenTo : Interface → After → List ℕ
+abbrev pub writtenTo : HostState → After → List ℕ
 writtenTo s a =
     octetsIn responsesAt (a .page) (s .outgoing .prod) (less (a .state .outgoing .prod) (s .outgoing .prod))
 
 -- the stream `read` is the messages ms, all carried out, and the present message so far
-pub record Stands (q : ℕ) (s : Interface) (read written : List ℕ) (ms : List (List ℕ)) (present : List ℕ) : Type 0 where
+pub record Stands (q : ℕ) (s : HostState) (read written : List ℕ) (ms : List (List ℕ)) (present : List ℕ) : Type 0 where
   pub splits : read ≡ joined ms ++ present
   pub messages : Messages ms
   pub held : Holding (s .incoming .message) present
@@ -100,7 +100,7 @@ sent-rest o n good h =
     ap₂ (λ (xs ys : List ℕ). xs ++ ys) sent (sym (drop-drop n (o .written) front)) ∙ take-append-drop n (drop (o .written) front)
 
 -- they then stand in the response area
-written-sent : (s : Interface) (page : List ℕ) (room : ℕ) → GoodOutgoing maxAck (s .outgoing) → length page ≡ pageSize
+written-sent : (s : HostState) (page : List ℕ) (room : ℕ) → GoodOutgoing maxAck (s .outgoing) → length page ≡ pageSize
     → writtenTo s (responded s page room) ≡ sentOctets (s .outgoing) (fitting (s .outgoing) room)
 unfolding responded
 written-sent s page room good size =
@@ -115,7 +115,7 @@ written-sent s page room good size =
     ∙ ap (octetsIn responsesAt into p) (less-advanced p n (good .count) (omega arith) ∙ sym long)
     ∙ put-stands responsesAt xs page p (omega arith) (omega arith)
 
-module _ (q : ℕ) (s : Interface) (read written : List ℕ) (ms : List (List ℕ)) (present : List ℕ) where
+module _ (q : ℕ) (s : HostState) (read written : List ℕ) (ms : List (List ℕ)) (present : List ℕ) where
   -- octets of the present message read
   pub stands-read : (page : List ℕ) (n : ℕ) → Good s → Stands q s read written ms present → beginsWhole present ≡ false → n ≤ areaSize
       → Stands q (readIn s page n) (read ++ readTo s page (readIn s page n)) written ms

@@ -1,28 +1,26 @@
 -- What the functions of an event did, as the definitions say it.
 -- Assumes nothing.
-use mathlib.Core.Path.{_≡_, refl, ap, _∙_}
+use mathlib.Core.Path.{_≡_, refl, ap}
 use mathlib.Core.List.{List}
-use mathlib.Core.Bool.{true, false}
-use Prim.Native.Nat.{ℕ, _-_, _≤_, _<_}
+use mathlib.Core.Bool.{true, false, cond}
+use Prim.Native.Nat.{ℕ, _+_, _-_, _≤_, _<_}
 use lib.ListN.{length}
+use lib.Dec.{ltb}
 use borrow.Author.Tests.{eq-eqb, ne-eqb, le-leb, lt-leb}
-use Rattle.messages.specs.declared.Carried.{Carried}
+use Rattle.messages.specs.Requests.{Carried}
 use Rattle.ring.specs.Refusals.{pageWrong, requestsWrong, responsesWrong}
-use Rattle.ring.specs.Page.{pageSize, areaSize, requestsAt, counted}
-use Rattle.ring.specs.Reading.{whole, receivedFrom}
-use Rattle.ring.specs.declared.Incoming.{Incoming}
-use Rattle.ring.specs.declared.Outgoing.{Outgoing}
-use Rattle.backend.specs.States.{Good}
+use Rattle.ring.specs.Page.{pageSize, areaSize, requestsAt, responsesAt, advanced, counted, put}
+use Rattle.ring.specs.Reading.{Incoming, whole, receivedFrom}
+use Rattle.ring.specs.Writing.{fitting, sentOctets, sent}
+use Rattle.backend.specs.States.{HostState, Good}
 use Rattle.backend.specs.Events.{After, unread, unreadAcks, refusedWith, withIncoming, withOutgoing, owes}
-use Rattle.backend.specs.Events.{responded, readIn, carriedIn, carriedOver, afterRead, proceeded, eventOf, left}
-use Rattle.backend.specs.Inner.{Responds}
-use Rattle.backend.specs.declared.Interface.{Interface}
+use Rattle.backend.specs.Events.{ackWritten, ackOwed, answerNumber, responded, readIn, carriedIn, carriedOver, afterRead, proceeded, eventOf, left}
 use Rattle.backend.specs.declared.EventAnswer.{EventAnswer}
 use Rattle.backend.specs.declared.EventAnswer.the-variants.{Waiting}
-use Rattle.backend.proofs.Goodness.{read-idle, good-event}
+use Rattle.backend.proofs.Goodness.{good-event}
 
 -- the state with what a request carried out gives
-abbrev over : Interface → Carried → Interface
+abbrev pub over : HostState → Carried → HostState
 over s c =
     let m = s .incoming .message in
     record {
@@ -32,42 +30,42 @@ over s c =
     }
 
 -- the message carried out
-pub carries : (s : Interface) (c : Carried) → c ≡ carriedIn s → over s c ≡ carriedOver s
+pub carries : (s : HostState) (c : Carried) → c ≡ carriedIn s → over s c ≡ carriedOver s
 unfolding carriedOver
 carries s c e = ap (over s) e
 
 -- the message read
-pub reads : (s : Interface) (page : List ℕ) (n : ℕ) (i : Incoming) → i ≡ receivedFrom requestsAt page (s .incoming) n → withIncoming s i ≡ readIn s page n
+pub reads : (s : HostState) (page : List ℕ) (n : ℕ) (i : Incoming) → i ≡ receivedFrom requestsAt page (s .incoming) n → withIncoming s i ≡ readIn s page n
 unfolding readIn
 reads s page n i e = ap (withIncoming s) e
 
 -- ack octets sent, and the counts written
-pub responds : (s : Interface) (page : List ℕ) (room : ℕ) (r : EventAnswer) (o : Outgoing) (octets : List ℕ)
-    → Responds (s .outgoing) page (s .incoming .cons) room r o octets → left r (withOutgoing s o) octets ≡ responded s page room
+pub responds : (s : HostState) (page : List ℕ) (room n : ℕ) (r : EventAnswer) (octets : List ℕ) → n ≡ fitting (s .outgoing) room
+    → octets ≡ counted (put responsesAt page (s .outgoing .prod) (sentOctets (s .outgoing) n)) (s .incoming .cons) (advanced (s .outgoing .prod) n)
+    → answerNumber r ≡ cond (ltb (s .outgoing .written + n) (s .outgoing .length)) ackOwed ackWritten
+    → left r (withOutgoing s (sent (s .outgoing) n)) octets ≡ responded s page room
 unfolding responded
-responds s page room r o octets e = rw (e .answer, e .octets, e .side) refl
+responds s page room n r octets fits written answer = rw (answer, written, fits) refl
 
 -- ack octets owed: they are written
-pub proceeds-owing : (s : Interface) (page : List ℕ) (n room : ℕ) → owes s ≡ true → responded s page room ≡ proceeded s page n room
+pub proceeds-owing : (s : HostState) (page : List ℕ) (n room : ℕ) → owes s ≡ true → responded s page room ≡ proceeded s page n room
 unfolding proceeded
 proceeds-owing s page n room owing = rw owing refl
 
 -- no ack owed, and octets read: the message is whole, or not
-module _ (s t : Interface) (page : List ℕ) (n room : ℕ) (good : Good s) (idle : owes s ≡ false) (read : t ≡ readIn s page n) where
-  pub proceeds-whole : (u : Interface) → whole (t .incoming .message) ≡ true → u ≡ carriedOver t
+module _ (s t : HostState) (page : List ℕ) (n room : ℕ) (idle : owes s ≡ false) (read : t ≡ readIn s page n) where
+  pub proceeds-whole : (u : HostState) → whole (t .incoming .message) ≡ true → u ≡ carriedOver t
       → responded u page room ≡ proceeded s page n room
   unfolding proceeded afterRead
   proceeds-whole u w carried = rw (idle, ← read, w, carried) refl
 
   pub proceeds-part : (octets : List ℕ) → whole (t .incoming .message) ≡ false
-      → octets ≡ counted page (t .incoming .cons) (s .outgoing .prod) → left Waiting t octets ≡ proceeded s page n room
+      → octets ≡ counted page (t .incoming .cons) (t .outgoing .prod) → left Waiting t octets ≡ proceeded s page n room
   unfolding proceeded afterRead
-  proceeds-part octets w q =
-      let same : t .outgoing ≡ s .outgoing = ap (λ (i : Interface). i .outgoing) read ∙ read-idle s page n good in
-      rw (idle, ← read, w, q, same) refl
+  proceeds-part octets w q = rw (idle, ← read, w, q) refl
 
 -- an event that is refused: the page is wrong, or the one count, or the other
-module _ (s : Interface) (page : List ℕ) where
+module _ (s : HostState) (page : List ℕ) where
   pub refused-page : (length page ≡ pageSize → ⊥) → refusedWith pageWrong s page ≡ eventOf s page
   unfolding eventOf
   refused-page wrong = rw (ne-eqb _ _ wrong) refl
@@ -83,14 +81,14 @@ module _ (s : Interface) (page : List ℕ) where
       rw (eq-eqb _ _ size, ← requests, le-leb _ _ few, ← responses, lt-leb _ _ many) refl
 
 -- an event with good counts
-pub goes-on : (s : Interface) (page : List ℕ) (n m : ℕ) → length page ≡ pageSize → n ≡ unread s page → n ≤ areaSize
+pub goes-on : (s : HostState) (page : List ℕ) (n m : ℕ) → length page ≡ pageSize → n ≡ unread s page → n ≤ areaSize
     → m ≡ unreadAcks s page → m ≤ areaSize → proceeded s page n (areaSize - m) ≡ eventOf s page
 unfolding eventOf
 goes-on s page n m size requests few responses some =
     rw (eq-eqb _ _ size, ← requests, le-leb _ _ few, ← responses, le-leb _ _ some) refl
 
 -- the state that an event leaves is good
-pub event-good : (s t : Interface) (page octets : List ℕ) (r : EventAnswer) → Good s → left r t octets ≡ eventOf s page → Good t
+pub event-good : (s t : HostState) (page octets : List ℕ) (r : EventAnswer) → Good s → left r t octets ≡ eventOf s page → Good t
 event-good s t page octets r good e =
     let same : t ≡ eventOf s page .state = ap (λ (a : After). a .state) e in
     rw same (good-event s page good)

@@ -9,11 +9,11 @@ use native.Mathlib.Omega.{arith}
 use lib.ListN.{length}
 use Rattle.messages.specs.Wire.{typeIn, sizeIn, success}
 use Rattle.messages.specs.Requests.{ackStatus}
-use Rattle.messages.specs.declared.Settings.{Settings}
+use Rattle.messages.specs.Settings.{Settings}
 use Rattle.messages.proofs.Theorems.{refused-keeps-settings, queues-stay}
 use Rattle.ring.specs.Page.{requestsAt, responsesAt, advanced, less, octetsIn}
 use Rattle.ring.specs.Reading.{whole, received, receivedFrom}
-use Rattle.ring.specs.declared.Incoming.{Incoming}
+use Rattle.ring.specs.Reading.{Incoming}
 use Rattle.ring.specs.Streams.{beginsWhole, presentPart, Holding}
 use Rattle.ring.proofs.Places.{octets-length}
 use Rattle.ring.proofs.Holdings.{holding-whole, holding-received, present-whole}
@@ -23,49 +23,49 @@ use Rattle.backend.specs.Events.{After, waiting, unread}
 use Rattle.backend.specs.Events.{owes, responded, readIn, carriedIn, carriedOver, eventOf}
 use Rattle.backend.specs.Streams.{readBy, writtenBy, Reached, fromSetUp, fromEvent}
 use Rattle.backend.specs.Rules.{Accepted, room, afterReading, BecomesWhole}
-use Rattle.backend.specs.declared.Interface.{Interface}
+use Rattle.backend.specs.States.{HostState}
 use Rattle.backend.proofs.Branches.{event-cases}
 use Rattle.backend.proofs.Goodness.{good-interface, good-event}
 use Rattle.backend.proofs.Queues.{good-queue}
 use Rattle.backend.proofs.Arrivals.{read-octets}
 
 -- every state that calls reach from setup is good
-pub reached-good : (s : Interface) → Reached s → Good s
+pub reached-good : (s : HostState) → Reached s → Good s
 reached-good s (fromSetUp q some most) = good-interface q some most
 reached-good s (fromEvent r page reached) = good-event r page (reached-good r reached)
 
 -- demand 1: every queue chosen is below the number of queues in operation
-pub every-queue-below : (s : Interface) (packet : List ℕ) → Reached s → queueIn (steeredBy (s .settings) packet) < s .settings .queues
+pub every-queue-below : (s : HostState) (packet : List ℕ) → Reached s → queueIn (steeredBy (s .settings) packet) < s .settings .queues
 every-queue-below s packet reached = good-queue (s .settings) packet (reached-good s reached .settings)
 
 -- a response leaves settings and message, and the state carried over leaves the count
-responded-settings : (s : Interface) (page : List ℕ) (n : ℕ) → responded s page n .state .settings ≡ s .settings
+responded-settings : (s : HostState) (page : List ℕ) (n : ℕ) → responded s page n .state .settings ≡ s .settings
 unfolding responded
 responded-settings s page n = refl
 
-responded-incoming : (s : Interface) (page : List ℕ) (n : ℕ) → responded s page n .state .incoming ≡ s .incoming
+responded-incoming : (s : HostState) (page : List ℕ) (n : ℕ) → responded s page n .state .incoming ≡ s .incoming
 unfolding responded
 responded-incoming s page n = refl
 
-read-settings : (s : Interface) (page : List ℕ) (n : ℕ) → readIn s page n .settings ≡ s .settings
+read-settings : (s : HostState) (page : List ℕ) (n : ℕ) → readIn s page n .settings ≡ s .settings
 unfolding readIn
 read-settings s page n = refl
 
-carried-count : (s : Interface) → carriedOver s .incoming .cons ≡ s .incoming .cons
+carried-count : (s : HostState) → carriedOver s .incoming .cons ≡ s .incoming .cons
 unfolding carriedOver
 carried-count s = refl
 
-carried-settings : (s : Interface) → carriedOver s .settings ≡ carriedIn s .settings
+carried-settings : (s : HostState) → carriedOver s .settings ≡ carriedIn s .settings
 unfolding carriedOver
 carried-settings s = refl
 
-read-whole : (s : Interface) (page : List ℕ) → whole (afterReading s page .incoming .message)
+read-whole : (s : HostState) (page : List ℕ) → whole (afterReading s page .incoming .message)
     ≡ whole (received (octetsIn requestsAt page (s .incoming .cons) (unread s page)) (s .incoming .message))
 unfolding readIn receivedFrom
 read-whole s page = refl
 
 -- the octets are read by reading alone
-read-all : (s : Interface) (page : List ℕ) → Accepted s page → owes s ≡ false
+read-all : (s : HostState) (page : List ℕ) → Accepted s page → owes s ≡ false
     → eventOf s page .state .incoming .cons ≡ afterReading s page .incoming .cons
 read-all s page ok idle =
     event-cases s page (λ (a : After). a .state .incoming .cons ≡ t .incoming .cons)
@@ -76,10 +76,10 @@ read-all s page ok idle =
     (λ _ i part. refl)
     (λ _ i all. ap (λ (i : Incoming). i .cons) (responded-incoming (carriedOver t) page (room s page)) ∙ carried-count t)
   where
-    t : Interface
+    t : HostState
     t = afterReading s page
 
-module _ (s : Interface) (page : List ℕ) where
+module _ (s : HostState) (page : List ℕ) where
   -- with an ack owed nothing is read
   pub owed-reads-none : owes s ≡ true → eventOf s page .state .incoming ≡ s .incoming
   owed-reads-none owing =
@@ -136,7 +136,7 @@ module _ (s : Interface) (page : List ℕ) where
       ∙ queues-stay (t .settings) (typeIn (m .header)) (sizeIn (m .header)) (m .payload)
       ∙ ap queues (read-settings s page (unread s page)))
     where
-      t : Interface
+      t : HostState
       t = afterReading s page
 
       queues : Settings → ℕ

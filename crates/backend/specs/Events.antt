@@ -7,17 +7,16 @@ use lib.ListN.{length}
 use lib.Dec.{eqb, leb, ltb}
 use Rattle.messages.specs.Wire.{typeIn, sizeIn}
 use Rattle.messages.specs.Requests.{carriedOut}
-use Rattle.messages.specs.declared.Carried.{Carried}
+use Rattle.messages.specs.Requests.{Carried}
 use Rattle.ring.specs.Refusals.{pageWrong, requestsWrong, responsesWrong}
 use Rattle.ring.specs.Page.{pageSize, areaSize, reqProdAt, rspConsAt, requestsAt, responsesAt, countIn, less, counted, put}
 use Rattle.ring.specs.Reading.{whole, receivedFrom}
 use Rattle.ring.specs.Writing.{fitting, sentOctets, sent}
-use Rattle.ring.specs.declared.Incoming.{Incoming}
-use Rattle.ring.specs.declared.Outgoing.{Outgoing}
-use Rattle.backend.specs.declared.Interface.{Interface}
+use Rattle.ring.specs.Reading.{Incoming}
+use Rattle.ring.specs.Writing.{Outgoing}
+use Rattle.backend.specs.States.{HostState}
 use Rattle.backend.specs.declared.EventAnswer.{EventAnswer}
 use Rattle.backend.specs.declared.EventAnswer.the-variants.{Waiting, Written, Owed, PageLength, RequestCount, ResponseCount}
-use Rattle.backend.specs.declared.Handled.{Handled}
 
 -- the answers to an event by their numbers: no whole message yet, ack wholly written, ack octets still owed
 abbrev pub waiting : ℕ
@@ -32,39 +31,39 @@ ackOwed = 2
 -- what an event answers, and leaves
 pub record After : Type 0 where
   pub answer : ℕ
-  pub state : Interface
+  pub state : HostState
   pub page : List ℕ
 
 -- the octets unread in the request area, and in the response area. Of the page only req_prod and rsp_cons are read: the
 -- other two counts are the host's own
-abbrev pub unread : Interface → List ℕ → ℕ
+abbrev pub unread : HostState → List ℕ → ℕ
 unread s page = less (countIn page reqProdAt) (s .incoming .cons)
 
-abbrev pub unreadAcks : Interface → List ℕ → ℕ
+abbrev pub unreadAcks : HostState → List ℕ → ℕ
 unreadAcks s page = less (s .outgoing .prod) (countIn page rspConsAt)
 
 -- a refusal: state and page as before
-abbrev pub refusedWith : ℕ → Interface → List ℕ → After
+abbrev pub refusedWith : ℕ → HostState → List ℕ → After
 refusedWith k s page = record { answer = k; state = s; page = page }
 
 -- an event answered 0, 1 or 2 writes both own counts back
-abbrev pub answeredWith : ℕ → Interface → List ℕ → After
+abbrev pub answeredWith : ℕ → HostState → List ℕ → After
 answeredWith k s page =
     record { answer = k; state = s; page = counted page (s .incoming .cons) (s .outgoing .prod) }
 
 -- the state with other parts
-abbrev pub withIncoming : Interface → Incoming → Interface
+abbrev pub withIncoming : HostState → Incoming → HostState
 withIncoming s i = record { settings = s .settings; incoming = i; outgoing = s .outgoing }
 
-abbrev pub withOutgoing : Interface → Outgoing → Interface
+abbrev pub withOutgoing : HostState → Outgoing → HostState
 withOutgoing s o = record { settings = s .settings; incoming = s .incoming; outgoing = o }
 
 -- whether ack octets are owed
-abbrev pub owes : Interface → Bool
+abbrev pub owes : HostState → Bool
 owes s = ltb (s .outgoing .written) (s .outgoing .length)
 
 -- as many octets of the ack written as fit into `room` octets
-unfoldable pub responded : Interface → List ℕ → ℕ → After
+unfoldable pub responded : HostState → List ℕ → ℕ → After
 responded s page room =
     let o = s .outgoing in
     let n = fitting o room in
@@ -72,17 +71,17 @@ responded s page room =
     answeredWith (cond (owes next) ackOwed ackWritten) next (put responsesAt page (o .prod) (sentOctets o n))
 
 -- octets of the present message read, until it is whole or none of the n is left
-unfoldable pub readIn : Interface → List ℕ → ℕ → Interface
+unfoldable pub readIn : HostState → List ℕ → ℕ → HostState
 readIn s page n = withIncoming s (receivedFrom requestsAt page (s .incoming) n)
 
 -- the present message carried out
-abbrev pub carriedIn : Interface → Carried
+abbrev pub carriedIn : HostState → Carried
 carriedIn s =
     let m = s .incoming .message in
     carriedOut (s .settings) (typeIn (m .header)) (sizeIn (m .header)) (m .payload)
 
 -- the state once it is: the settings that it leaves, a next message begun, and its ack owed
-unfoldable pub carriedOver : Interface → Interface
+unfoldable pub carriedOver : HostState → HostState
 carriedOver s =
     let m = s .incoming .message in
     let c = carriedIn s in
@@ -93,15 +92,15 @@ carriedOver s =
     }
 
 -- once the octets there are have been read: not whole, answer 0; whole, carried out, and as much of its ack written as fits
-unfoldable pub afterRead : Interface → List ℕ → ℕ → After
+unfoldable pub afterRead : HostState → List ℕ → ℕ → After
 afterRead s page room = cond (whole (s .incoming .message)) (responded (carriedOver s) page room) (answeredWith waiting s page)
 
 -- an event with good counts: if ack octets are owed, they are written, as many as fit, and nothing is read
-unfoldable pub proceeded : Interface → List ℕ → ℕ → ℕ → After
+unfoldable pub proceeded : HostState → List ℕ → ℕ → ℕ → After
 proceeded s page n room = cond (owes s) (responded s page room) (afterRead (readIn s page n) page room)
 
 -- one event: the refusals 3, 4, 5 in this order, each exactly where its condition is the first that holds
-unfoldable pub eventOf : Interface → List ℕ → After
+unfoldable pub eventOf : HostState → List ℕ → After
 eventOf s page =
     cond (eqb (length page) pageSize)
     (cond (leb (unread s page) areaSize)
@@ -120,9 +119,6 @@ answerNumber PageLength = pageWrong
 answerNumber RequestCount = requestsWrong
 answerNumber ResponseCount = responsesWrong
 
--- what a call answered and left: by the parts of an interface, and by value
-abbrev pub left : EventAnswer → Interface → List ℕ → After
+-- what a call answered and left
+abbrev pub left : EventAnswer → HostState → List ℕ → After
 left r s page = record { answer = answerNumber r; state = s; page = page }
-
-abbrev pub after : Handled → List ℕ → After
-after r page = left (r .answer) (r .interface) page

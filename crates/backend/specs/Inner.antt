@@ -1,18 +1,23 @@
--- What the inner functions promise: no part of the public promise.
+-- What the inner functions promise: no part of the public promise. Each speaks of the parts that it is lent, and holds
+-- whatever the others are.
 -- Assumes nothing.
 use mathlib.Core.Path.{_≡_}
 use mathlib.Core.List.{List}
-use mathlib.Core.Bool.{cond}
 use Prim.Native.Nat.{ℕ}
-use lib.Dec.{ltb}
-use Rattle.ring.specs.Page.{responsesAt, counted, put}
-use Rattle.ring.specs.Writing.{fitting, sentOctets, sent}
-use Rattle.ring.specs.declared.Outgoing.{Outgoing}
-use Rattle.backend.specs.Events.{ackWritten, ackOwed, answerNumber}
+use Rattle.backend.specs.States.{interfaceIn}
+use Rattle.backend.specs.Events.{responded, readIn, left}
 use Rattle.backend.specs.declared.EventAnswer.{EventAnswer}
 
 -- as many octets of the ack written as fit into `room` octets, and both counts behind them
-pub record Responds (o : Outgoing) (page : List ℕ) (reqCons room : ℕ) (r : EventAnswer) (next : Outgoing) (left : List ℕ) : Type 0 where
-  pub side : next ≡ sent o (fitting o room)
-  pub octets : left ≡ counted (put responsesAt page (o .prod) (sentOctets o (fitting o room))) reqCons (next .prod)
-  pub answer : answerNumber r ≡ cond (ltb (next .written) (next .length)) ackOwed ackWritten
+abbrev pub Responds : List ℕ → List ℕ → List ℕ → ℕ → EventAnswer → List ℕ → List ℕ → Type 0
+Responds numbers ack page room r numbers′ page′ =
+    (header payload key entries : List ℕ)
+    → left r (interfaceIn numbers′ header payload ack key entries) page′
+    ≡ responded (interfaceIn numbers header payload ack key entries) page room
+
+-- octets of the present request read, of which n stand unread
+abbrev pub Reads : List ℕ → List ℕ → List ℕ → List ℕ → ℕ → List ℕ → List ℕ → List ℕ → Type 0
+Reads numbers header payload page n numbers′ header′ payload′ =
+    (ack key entries : List ℕ)
+    → interfaceIn numbers′ header′ payload′ ack key entries
+    ≡ readIn (interfaceIn numbers header payload ack key entries) page n

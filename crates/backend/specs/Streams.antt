@@ -7,13 +7,13 @@ use Prim.Native.Nat.{ℕ, zero, suc, _≤_}
 use lib.ListN.{length, take, drop}
 use Rattle.messages.specs.Settings.{maxQueues, settingsAtSetup}
 use Rattle.messages.specs.Requests.{ackIn, carriedMessage}
-use Rattle.messages.specs.declared.Settings.{Settings}
+use Rattle.messages.specs.Settings.{Settings}
 use Rattle.ring.specs.Page.{requestsAt, responsesAt, less, octetsIn}
 use Rattle.ring.specs.Reading.{messageLength}
 use Rattle.ring.specs.Streams.{beginsWhole, firstMessage, behindFirst, Holding}
 use Rattle.backend.specs.States.{interfaceAtSetup}
 use Rattle.backend.specs.Events.{eventOf}
-use Rattle.backend.specs.declared.Interface.{Interface}
+use Rattle.backend.specs.States.{HostState}
 
 -- the messages into which a stream falls, at most n of them, and what is behind them
 unfoldable pub messagesWithin : ℕ → List ℕ → List (List ℕ)
@@ -50,43 +50,43 @@ acksTo s [] = []
 acksTo s (m ∷ ms) = ackIn (carriedMessage s m []) ++ acksTo (carriedMessage s m [] .settings) ms
 
 -- the octets that an event reads: those of the request area from the own req_cons before it to that after it
-abbrev pub readBy : Interface → List ℕ → List ℕ
+abbrev pub readBy : HostState → List ℕ → List ℕ
 readBy s page =
     octetsIn requestsAt page (s .incoming .cons)
     (less (eventOf s page .state .incoming .cons) (s .incoming .cons))
 
 -- and the octets that it writes: those that then stand in the response area, from the own rsp_prod before it to that after it
-abbrev pub writtenBy : Interface → List ℕ → List ℕ
+abbrev pub writtenBy : HostState → List ℕ → List ℕ
 writtenBy s page =
     octetsIn responsesAt (eventOf s page .page) (s .outgoing .prod)
     (less (eventOf s page .state .outgoing .prod) (s .outgoing .prod))
 
 -- events one after the other, each on the page that it is given: the state left, and all octets read and written
-unfoldable pub stateAfter : Interface → List (List ℕ) → Interface
+unfoldable pub stateAfter : HostState → List (List ℕ) → HostState
 stateAfter s [] = s
 stateAfter s (page ∷ pages) = stateAfter (eventOf s page .state) pages
 
-unfoldable pub octetsRead : Interface → List (List ℕ) → List ℕ
+unfoldable pub octetsRead : HostState → List (List ℕ) → List ℕ
 octetsRead s [] = []
 octetsRead s (page ∷ pages) = readBy s page ++ octetsRead (eventOf s page .state) pages
 
-unfoldable pub octetsWritten : Interface → List (List ℕ) → List ℕ
+unfoldable pub octetsWritten : HostState → List (List ℕ) → List ℕ
 octetsWritten s [] = []
 octetsWritten s (page ∷ pages) = writtenBy s page ++ octetsWritten (eventOf s page .state) pages
 
 -- the octets of the ack that are still owed
-abbrev pub owedOctets : Interface → List ℕ
+abbrev pub owedOctets : HostState → List ℕ
 owedOctets s = drop (s .outgoing .written) (take (s .outgoing .length) (s .outgoing .octets))
 
 -- an interface with q queues that has served the stream `read`: its settings are what the messages of the stream leave,
 -- carried out in order, each once; the octets written are their acks in order, up to what is still owed; and of the
 -- message that is not whole yet it holds what the stream has of it
-pub record Served (q : ℕ) (s : Interface) (read written : List ℕ) : Type 0 where
+pub record Served (q : ℕ) (s : HostState) (read written : List ℕ) : Type 0 where
   pub settings : s .settings ≡ settingsAfter (settingsAtSetup q) (messagesIn read)
   pub acks : written ++ owedOctets s ≡ acksTo (settingsAtSetup q) (messagesIn read)
   pub present : Holding (s .incoming .message) (restOf read)
 
 -- a state that calls reach from setup
-pub data Reached : Interface → Type 0 where
+pub data Reached : HostState → Type 0 where
   fromSetUp : (q : ℕ) → 1 ≤ q → q ≤ maxQueues → Reached (interfaceAtSetup q)
-  fromEvent : (s : Interface) (page : List ℕ) → Reached s → Reached (eventOf s page .state)
+  fromEvent : (s : HostState) (page : List ℕ) → Reached s → Reached (eventOf s page .state)

@@ -1,63 +1,44 @@
-// A new interface.
+// A new interface, written in place.
 ghost use mathlib.Core.Path.{_≡_};
-ghost use mathlib.Core.Bool.{false};
-ghost use Rattle.backend.specs.States.{Good, interfaceAtSetup, setUpOutcome, setUpOutcomeOf};
-use crate::Interface;
+ghost use Rattle.octets.specs.Outcome.{numberOf, placed, itself};
+ghost use Rattle.backend.specs.States.{interfaceIn, setUpOutcome, setUpNumber};
 use crate::MAX_QUEUES;
+use crate::NUMBERS;
 use crate::SetUpAnswer;
 use messages::HEADER;
 use messages::MAX_ACK;
+use messages::MAX_ENTRIES;
 use messages::MAX_PAYLOAD;
-use ring::Incoming;
-use ring::Message;
-use ring::Outgoing;
+use toeplitz::KEY_LENGTH;
 
-// An interface with this many queues in operation, 1 to 64.
-pub fn set_up(queues: u32) -> SetUpAnswer
-    ensures { λ r. ⌜ (setUpOutcomeOf r ≡ setUpOutcome queues) × Good (r .interface) ⌝ }
+// Sets up the interface whose parts are lent with this many queues in operation, 1 to 64. Every octet of it is written; where
+// the number is refused, none is.
+pub fn set_up<'a>(
+    numbers: &'a mut [u64; NUMBERS],
+    header: &'a mut [u8; HEADER],
+    payload: &'a mut [u8; MAX_PAYLOAD],
+    ack: &'a mut [u8; MAX_ACK],
+    key: &'a mut [u8; KEY_LENGTH],
+    entries: &'a mut [u8; MAX_ENTRIES],
+    queues: u32,
+) -> SetUpAnswer
+    ensures { λ r. ⌜ (setUpNumber r ≡ numberOf (setUpOutcome queues))
+        × (interfaceIn (now (numbers .exit)) (now (header .exit)) (now (payload .exit)) (now (ack .exit)) (now (key .exit)) (now (entries .exit))
+        ≡ placed itself (setUpOutcome queues) (interfaceIn (now (numbers .entry)) (now (header .entry)) (now (payload .entry))
+        (now (ack .entry)) (now (key .entry)) (now (entries .entry)))) ⌝ }
 {
     if queues == 0 {
-        return refused();
+        return SetUpAnswer::Queues;
     }
     if queues > MAX_QUEUES {
-        return refused();
+        return SetUpAnswer::Queues;
     }
-    let interface = at_setup(queues as u8);
-    SetUpAnswer {
-        made: true,
-        interface,
-    }
-}
-
-fn refused() -> SetUpAnswer
-    ensures { λ r. ⌜ r ≡ record { made = false; interface = interfaceAtSetup 1 } ⌝ }
-{
-    let interface = at_setup(1);
-    SetUpAnswer {
-        made: false,
-        interface,
-    }
-}
-
-fn at_setup(queues: u8) -> Interface
-    ensures { λ r. ⌜ r ≡ interfaceAtSetup queues ⌝ }
-{
-    let settings = messages::at_setup(queues);
-    Interface {
-        settings,
-        incoming: Incoming {
-            message: Message {
-                header: [0; HEADER],
-                payload: [0; MAX_PAYLOAD],
-                taken: 0,
-            },
-            cons: 0,
-        },
-        outgoing: Outgoing {
-            octets: [0; MAX_ACK],
-            length: 0,
-            written: 0,
-            prod: 0,
-        },
-    }
+    // No flags, a mapping of one entry, queue 0, and all else 0.
+    *numbers = [queues as u64, 0, 1, 0, 0, 0, 0, 0];
+    *header = [0; HEADER];
+    *payload = [0; MAX_PAYLOAD];
+    *ack = [0; MAX_ACK];
+    *key = [0; KEY_LENGTH];
+    *entries = [0; MAX_ENTRIES];
+    SetUpAnswer::Made
 }

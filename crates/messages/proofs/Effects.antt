@@ -11,7 +11,7 @@ use Rattle.messages.specs.Settings.{mappingOf}
 use Rattle.messages.specs.Requests.{Request, getFlags, setFlags, setKey, setMapping, none, flagsIn, keyIn, entriesIn, statusOf}
 use Rattle.messages.specs.Requests.{withFlags, withKey, withMapping, replaced, carriesFlags, answered, answeredFlags, carriedBy}
 use Rattle.messages.specs.declared.Mapping.{Mapping}
-use Rattle.messages.specs.declared.Settings.{Settings}
+use Rattle.messages.specs.Settings.{Settings}
 
 -- only a success has flags in its ack
 pub flags-on-success : (r : Request) (status : ℕ) → carriesFlags r (suc status) ≡ false

@@ -14,7 +14,7 @@ use Rattle.messages.specs.Settings.{tableOf, mappingOf, GoodMapping, Goo
 use Rattle.messages.specs.Requests.{Request, getFlags, setFlags, setKey, setMapping, none, flagsIn, keyIn, entriesIn, statusOf}
 use Rattle.messages.specs.Requests.{withFlags, withKey, withMapping, replaced}
 use Rattle.messages.specs.declared.Mapping.{Mapping}
-use Rattle.messages.specs.declared.Settings.{Settings}
+use Rattle.messages.specs.Settings.{Settings}
 use Rattle.messages.proofs.Powers.{listed-parts}
 use Rattle.messages.proofs.Tables.{length-entries, all-below-exactly}
 use Rattle.messages.proofs.Statuses.{set-flags-exactly, set-mapping-exactly}

@@ -16,7 +16,7 @@ use Rattle.messages.specs.Wire.{maxPayload, fieldSize, success, invalidP
 use Rattle.messages.specs.Settings.{maxEntries, isPowerOfTwo, mappingOf}
 use Rattle.messages.specs.Requests.{Request, getFlags, setFlags, setKey, setMapping, none, flagsIn, keyIn, entriesIn, allBelow, check}
 use Rattle.messages.specs.Requests.{statusOf, withFlags, withKey, withMapping, replaced, carriedBy}
-use Rattle.messages.specs.declared.Settings.{Settings}
+use Rattle.messages.specs.Settings.{Settings}
 use Rattle.messages.proofs.Checks.{check-same}
 use Rattle.messages.proofs.Statuses.{set-flags-exactly, set-key-exactly, set-mapping-exactly}
 use Rattle.messages.proofs.Tables.{length-entries, entry-at}

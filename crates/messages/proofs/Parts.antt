@@ -9,7 +9,7 @@ use lib.Seq.{drop-at, take-add}
 use Rattle.octets.specs.Numbers.{AreOctets, numberAt, octetsOf}
 use Rattle.octets.proofs.Numbers.{length-octets, number-behind, number-octets, octets-number}
 use Rattle.messages.specs.Requests.{carriedOut, carriedMessage}
-use Rattle.messages.specs.declared.Settings.{Settings}
+use Rattle.messages.specs.Settings.{Settings}
 use Rattle.messages.specs.Wire.{headerSize, header, message, typeIn, sizeIn, payloadIn}
 
 pub length-header : (t n : ℕ) → length (header t n) ≡ headerSize

@@ -17,7 +17,7 @@ use Rattle.messages.specs.Wire.{maxPayload, headerSize, fieldSize, messa
 use Rattle.messages.specs.Settings.{maxQueues, isPowerBelow, isPowerOfTwo, isListed, settingsAtSetup, Good}
 use Rattle.messages.specs.Requests.{requestOf, statusOf, replaced, statusPayload, ackPayload, maxAck, ackIn, ackStatus}
 use Rattle.messages.specs.Requests.{answered, carriedBy, carriedOut}
-use Rattle.messages.specs.declared.Settings.{Settings}
+use Rattle.messages.specs.Settings.{Settings}
 use Rattle.messages.proofs.Powers.{power-exactly, listed-parts, exponent-most}
 use Rattle.messages.proofs.Parts.{length-message, number-payload}
 use Rattle.messages.proofs.AckOctets.{payload-status, payload-size, payload-short, stored-fits}

@@ -4,9 +4,8 @@ use mathlib.Core.Path.{_≡_}
 use mathlib.Core.List.{List}
 use mathlib.Core.Bool.{true}
 use Prim.Native.Nat.{ℕ}
-use Rattle.messages.specs.Settings.{mappingOf, settingsOf}
+use Rattle.messages.specs.Settings.{Settings, mappingOf, settingsOf}
 use Rattle.messages.specs.Requests.{Request, getFlags, setFlags, setKey, setMapping, entriesIn, allBelow, ackPayload, ackStored, carriedBy}
-use Rattle.messages.specs.declared.Settings.{Settings}
 use Rattle.messages.specs.declared.table.Built.{Built}
 
 -- whether the first n entries of the payload are all below q, and if so the mapping of them

@@ -10,11 +10,9 @@ use Rattle.toeplitz.specs.Hash.{keyLength}
 use Rattle.messages.specs.Wire.{fieldSize, message, typeIn, sizeIn, payloadIn, statusIn}
 use Rattle.messages.specs.Wire.{ackType, getFlagsType, setFlagsType, setKeyType, setMappingType}
 use Rattle.messages.specs.Wire.{success, notSupported, invalidParameter, bufferOverflow, allFlags}
-use Rattle.messages.specs.Settings.{maxEntries, isPowerOfTwo, mappingOf}
+use Rattle.messages.specs.Settings.{Settings, maxEntries, isPowerOfTwo, mappingOf}
 use Rattle.messages.specs.declared.Mapping.{Mapping}
-use Rattle.messages.specs.declared.Settings.{Settings}
 use Rattle.messages.specs.declared.Ack.{Ack}
-use Rattle.messages.specs.declared.Carried.{Carried}
 
 -- the four requests; every other type, 1 and 0 too, is none of them
 pub data Request : Type 0 where
@@ -98,7 +96,7 @@ carriesFlags none status = false
 abbrev pub ackPayload : Request → ℕ → List ℕ
 ackPayload r status = cond (carriesFlags r status) (flagsPayload allFlags) (statusPayload status)
 
--- the most octets of an ack; an ack as it is handed on, with zeros behind it, and as a list
+-- the most octets of an ack, and an ack as it is handed on, with zeros behind it
 abbrev pub maxAck : ℕ
 maxAck = 24
 
@@ -109,6 +107,12 @@ ackStored payload =
       length = length (message ackType payload);
     }
 
+-- what carrying out a request leaves
+pub record Carried : Type 0 where
+  pub settings : Settings
+  pub ack : Ack
+
+-- its ack as a list
 abbrev pub ackIn : Carried → List ℕ
 ackIn c = take (c .ack .length) (c .ack .octets)
 

@@ -9,7 +9,6 @@ use lib.Dec.{eqb, leb}
 use Rattle.toeplitz.specs.Hash.{keyLength}
 use Rattle.messages.specs.Wire.{allFlags}
 use Rattle.messages.specs.declared.Mapping.{Mapping}
-use Rattle.messages.specs.declared.Settings.{Settings}
 
 -- the most queues in operation, and the most entries of a mapping
 abbrev pub maxQueues : ℕ
@@ -33,6 +32,13 @@ isListed n = isPowerOfTwo n && leb n maxEntries
 -- each number of the list is below q
 abbrev pub EachBelow : ℕ → List ℕ → Type 0
 EachBelow q xs = (i : ℕ) → i < length xs → getD xs i 0 < q
+
+-- the settings of an interface. The queue count is the host's; the guest's requests replace the others
+pub record Settings : Type 0 where
+  pub queues : ℕ
+  pub flags : ℕ
+  pub key : List ℕ
+  pub mapping : Mapping
 
 -- the table of a mapping, a list of queues; and the mapping that holds a table, with zeros behind it
 abbrev pub tableOf : Mapping → List ℕ

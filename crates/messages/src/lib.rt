@@ -4,12 +4,8 @@ mod acks;
 mod requests;
 mod table;
 
-ghost use mathlib.Core.Path.{_≡_};
-ghost use Rattle.messages.specs.Settings.{settingsAtSetup};
 pub use requests::carry_out;
-pub use requests::carry_out_in_place;
 pub use table::is_power_of_two;
-use toeplitz::KEY_LENGTH;
 
 // Message types: of the host's answer, and of the guest's requests.
 pub const ACK_TYPE: u32 = 1;
@@ -50,19 +46,9 @@ pub const MAX_PAYLOAD: usize = 1024;
 pub const MAX_ACK: usize = 24;
 
 // A mapping table: the queue of each entry. Octets of the array behind the table are 0.
-#[repr(C)]
 pub struct Mapping {
     pub entries: [u8; MAX_ENTRIES],
     pub count: u8,
-}
-
-// The settings of an interface. The queue count is the host's; the guest's requests replace the others.
-#[repr(C)]
-pub struct Settings {
-    pub queues: u8,
-    pub flags: u8,
-    pub key: [u8; KEY_LENGTH],
-    pub mapping: Mapping,
 }
 
 // An ack: a message of `length` octets, and zeros behind it.
@@ -71,23 +57,9 @@ pub struct Ack {
     pub length: usize,
 }
 
-// What carrying out a request leaves.
-pub struct Carried {
-    pub settings: Settings,
-    pub ack: Ack,
-}
-
-// The settings of a new interface: no flags, a key of zeros, and a mapping of one entry, queue 0.
-pub fn at_setup(queues: u8) -> Settings
-    ensures { λ r. ⌜ r ≡ settingsAtSetup queues ⌝ }
-{
-    Settings {
-        queues,
-        flags: 0,
-        key: [0; KEY_LENGTH],
-        mapping: Mapping {
-            entries: [0; MAX_ENTRIES],
-            count: 1,
-        },
-    }
+// What carrying out a request leaves beside what is lent: the flags, the number of mapping entries, and the ack's length.
+pub struct Numbers {
+    pub flags: u8,
+    pub count: u8,
+    pub ack_length: usize,
 }

@@ -9,20 +9,18 @@ ghost use Rattle.messages.specs.Inner.{Leaves, GetsFlags, SetsFlags, Set
 use crate::ALL_FLAGS;
 use crate::Ack;
 use crate::BUFFER_OVERFLOW;
-use crate::Carried;
 use crate::FIELD;
 use crate::GET_FLAGS;
 use crate::INVALID_PARAMETER;
 use crate::MAX_ACK;
 use crate::MAX_ENTRIES;
 use crate::MAX_PAYLOAD;
-use crate::Mapping;
 use crate::NOT_SUPPORTED;
+use crate::Numbers;
 use crate::SET_FLAGS;
 use crate::SET_KEY;
 use crate::SET_MAPPING;
 use crate::SUCCESS;
-use crate::Settings;
 use crate::acks;
 use crate::table;
 use toeplitz::KEY_LENGTH;
@@ -34,64 +32,44 @@ const KEY_SIZE: u32 = KEY_LENGTH as u32;
 
 const MOST_ENTRIES: u32 = MAX_ENTRIES as u32;
 
-// Carries out the message of type `kind` with `size` octets of payload, of which the first 1,024 are kept.
-pub fn carry_out(settings: Settings, kind: u32, size: u32, payload: &[u8; MAX_PAYLOAD]) -> Carried
-    ensures { λ r. ⌜ r ≡ carriedOut settings kind size (now (payload .entry)) ⌝ }
-{
-    let mapping = settings.mapping;
-    let queues = settings.queues;
-    let mut flags = settings.flags;
-    let mut key = settings.key;
-    let mut entries = mapping.entries;
-    let mut count = mapping.count;
-    let mut octets = [0u8; MAX_ACK];
-    let mut length = 0;
-    carry_out_in_place(
-        queues,
-        &mut flags,
-        &mut key,
-        &mut entries,
-        &mut count,
-        kind,
-        size,
-        payload,
-        &mut octets,
-        &mut length,
-    );
-    Carried {
-        settings: Settings {
-            queues,
-            flags,
-            key,
-            mapping: Mapping { entries, count },
-        },
-        ack: Ack { octets, length },
-    }
-}
-
-// The same on settings whose parts are lent: the effect goes into them, and the ack into what is lent for it.
-pub fn carry_out_in_place(
+// Carries out the message of type `kind` with `size` octets of payload, of which the first 1,024 are kept, under settings
+// whose key and entries are lent: the effect goes into them and into the numbers answered, and the ack into its place.
+pub fn carry_out(
     queues: u8,
-    flags: &mut u8,
+    flags: u8,
+    count: u8,
     key: &mut [u8; KEY_LENGTH],
     entries: &mut [u8; MAX_ENTRIES],
-    count: &mut u8,
     kind: u32,
     size: u32,
     payload: &[u8; MAX_PAYLOAD],
     ack: &mut [u8; MAX_ACK],
-    ack_length: &mut usize,
-)
-    ensures { λ _. ⌜ carriedAs (settingsOf queues (now (flags .exit)) (now (key .exit)) (now (entries .exit)) (now (count .exit)))
-        (now (ack .exit)) (now («ack_length» .exit))
-        ≡ carriedOut (settingsOf queues (now (flags .entry)) (now (key .entry)) (now (entries .entry)) (now (count .entry)))
+) -> Numbers
+    ensures { λ r. ⌜ carriedAs (settingsOf queues (r .flags) (now (key .exit)) (now (entries .exit)) (r .count))
+        (now (ack .exit)) (r .«ack_length»)
+        ≡ carriedOut (settingsOf queues flags (now (key .entry)) (now (entries .entry)) count)
         kind size (now (payload .entry)) ⌝ }
 {
-    let status = apply(queues, flags, key, entries, count, kind, size, payload);
+    let mut flags_left = flags;
+    let mut count_left = count;
+    let status = apply(
+        queues,
+        &mut flags_left,
+        key,
+        entries,
+        &mut count_left,
+        kind,
+        size,
+        payload,
+    );
     let answer = answer(kind, status);
     let octets = answer.octets;
     *ack = octets;
-    *ack_length = answer.length;
+    Numbers {
+        flags: flags_left,
+        count: count_left,
+        ack_length: answer.length,
+    }
 }
 
 // Judges the request, puts its effect into the settings if it passes, and answers its status.

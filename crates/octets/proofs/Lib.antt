@@ -3,3 +3,4 @@ pub mod Truth
 pub mod Outcomes
 pub mod Copies
 pub mod Numbers
+pub mod Lengths

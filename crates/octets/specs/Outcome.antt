@@ -16,3 +16,21 @@ andThen (refused n) f = refused n
 abbrev pub valueOr : {A : Type 0} → A → Outcome A → A
 valueOr other (value x) = x
 valueOr other (refused n) = other
+
+-- the number of a call that is not refused
+abbrev pub done : ℕ
+done = 0
+
+-- the number that a call answers: document 01's of its refusal
+abbrev pub numberOf : {A : Type 0} → Outcome A → ℕ
+numberOf (value v) = done
+numberOf (refused k) = k
+
+-- what a place holds after a call, by what a value puts there, which may be what it held before
+abbrev pub placed : {A B : Type 0} → (A → B → B) → Outcome A → B → B
+placed puts (value v) before = puts v before
+placed puts (refused k) before = before
+
+-- the value itself
+abbrev pub itself : {A : Type 0} → A → A → A
+itself v before = v

@@ -14,7 +14,7 @@ use Rattle.octets.proofs.Numbers.{number-same}
 use Rattle.messages.specs.Wire.{headerSize, maxPayload, sizeIn}
 use Rattle.ring.specs.Reading.{messageLength, whole, withOctet, received}
 use Rattle.ring.specs.Streams.{beginsWhole, firstMessage, presentPart, Holding}
-use Rattle.ring.specs.declared.Message.{Message}
+use Rattle.ring.specs.Reading.{Message}
 use Rattle.ring.proofs.Turns.{with-header, with-payload, received-none, received-next, received-whole}
 
 -- the size in a header does not depend on what stands behind the header

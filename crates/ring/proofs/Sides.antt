@@ -14,9 +14,9 @@ use Rattle.messages.specs.Requests.{maxAck}
 use Rattle.ring.specs.Page.{advanced, less, octetsIn}
 use Rattle.ring.specs.Reading.{messageLength, isWhole, whole, withOctet, received, receivedFrom, incomingAtSetup, GoodIncoming}
 use Rattle.ring.specs.Writing.{fitting, sent, outgoingAtSetup, GoodOutgoing}
-use Rattle.ring.specs.declared.Message.{Message}
-use Rattle.ring.specs.declared.Incoming.{Incoming}
-use Rattle.ring.specs.declared.Outgoing.{Outgoing}
+use Rattle.ring.specs.Reading.{Message}
+use Rattle.ring.specs.Reading.{Incoming}
+use Rattle.ring.specs.Writing.{Outgoing}
 
 -- a message with the same sizes, and n octets more
 pub record Grown (m r : Message) (n : ℕ) : Type 0 where

@@ -15,8 +15,8 @@ use Rattle.messages.specs.Wire.{headerSize}
 use Rattle.ring.specs.Page.{advanced, octetsIn}
 use Rattle.ring.specs.Reading.{messageLength, isWhole, whole, withOctet, received, receivedFrom}
 use Rattle.ring.specs.Inner.{headerMoved, payloadMoved}
-use Rattle.ring.specs.declared.Message.{Message}
-use Rattle.ring.specs.declared.Incoming.{Incoming}
+use Rattle.ring.specs.Reading.{Message}
+use Rattle.ring.specs.Reading.{Incoming}
 use Rattle.ring.proofs.Turns.{parts, with-header, with-payload, received-none, received-next, received-whole}
 use Rattle.ring.proofs.Places.{octets-same, octets-length, octets-none, octets-add, octets-take}
 

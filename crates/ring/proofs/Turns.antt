@@ -9,7 +9,7 @@ use lib.ListN.{set}
 use borrow.Author.Tests.{lt-ltb, le-ltb}
 use Rattle.messages.specs.Wire.{headerSize}
 use Rattle.ring.specs.Reading.{whole, withOctet, received}
-use Rattle.ring.specs.declared.Message.{Message}
+use Rattle.ring.specs.Reading.{Message}
 
 -- the message with these parts
 abbrev pub parts : List ℕ → List ℕ → ℕ → Message

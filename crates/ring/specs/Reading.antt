@@ -8,8 +8,17 @@ use lib.ListN.{length, set, replicate}
 use lib.Dec.{leb, ltb}
 use Rattle.messages.specs.Wire.{headerSize, maxPayload, sizeIn}
 use Rattle.ring.specs.Page.{advanced, octetsIn}
-use Rattle.ring.specs.declared.Message.{Message}
-use Rattle.ring.specs.declared.Incoming.{Incoming}
+
+-- what has been read of a message: its header, the first octets of its payload, and how many octets in all
+pub record Message : Type 0 where
+  pub header : List ℕ
+  pub payload : List ℕ
+  pub taken : ℕ
+
+-- a reading side: the present message, and the count of octets read
+pub record Incoming : Type 0 where
+  pub message : Message
+  pub cons : ℕ
 
 -- the reading side by its parts
 abbrev pub incomingOf : List ℕ → List ℕ → ℕ → ℕ → Incoming

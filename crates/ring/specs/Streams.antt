@@ -7,7 +7,7 @@ use Prim.Native.Nat.{ℕ, _-_}
 use lib.ListN.{length, take, drop}
 use Rattle.messages.specs.Wire.{headerSize, maxPayload}
 use Rattle.ring.specs.Reading.{messageLength, isWhole}
-use Rattle.ring.specs.declared.Message.{Message}
+use Rattle.ring.specs.Reading.{Message}
 
 -- whether a stream begins with a whole message, that message, and what is behind it
 abbrev pub beginsWhole : List ℕ → Bool

@@ -6,7 +6,13 @@ use Prim.Native.Nat.{ℕ, _+_, _-_, _^_, _≤_, _<_, min}
 use lib.ListN.{length, take, drop, replicate}
 use Rattle.messages.specs.Requests.{maxAck}
 use Rattle.ring.specs.Page.{advanced}
-use Rattle.ring.specs.declared.Outgoing.{Outgoing}
+
+-- a writing side: a message of `length` octets, of which `written` are on the page, and the count of octets written
+pub record Outgoing : Type 0 where
+  pub octets : List ℕ
+  pub length : ℕ
+  pub written : ℕ
+  pub prod : ℕ
 
 -- the writing side by its parts
 abbrev pub outgoingOf : List ℕ → ℕ → ℕ → ℕ → Outgoing

@@ -6,7 +6,7 @@ ghost use Prim.Native.Nat.{_+_, _-_, _^_, _≤_, _<_};
 ghost use lib.ListN.{length};
 ghost use lib.Seq.{sets};
 ghost use Rattle.messages.specs.Wire.{headerSize};
-ghost use Rattle.ring.specs.Page.{areaSize, octetsIn};
+ghost use Rattle.ring.specs.Page.{areaSize, advanced, octetsIn};
 ghost use Rattle.ring.specs.Reading.{messageLength, isWhole, incomingOf, receivedFrom};
 ghost use Rattle.ring.specs.Inner.{headerMoved, payloadMoved};
 use crate::areas::least;
@@ -32,35 +32,33 @@ fn message_length(header: &[u8]) -> u64
     HEADER_OCTETS + octets::read_u32(header, SIZE_AT) as u64
 }
 
-// Reads the octets of the present message that stand among the `unread` ones of the area at `area`, and counts them.
+// Reads the octets of the present message, of which `taken` are there, that stand among the `unread` ones of the area at
+// `area` from the count `cons` on, and answers how many these are.
 pub fn receive(
     page: &[u8],
     area: usize,
     header: &mut [u8; HEADER],
     payload: &mut [u8],
-    taken: &mut u64,
-    cons: &mut u32,
+    taken: u64,
+    cons: u32,
     unread: u32,
-)
-    requires { ⌜ (area + areaSize ≤ length (now page)) × (unread ≤ areaSize) × (isWhole (now header) (now taken) ≡ false) ⌝ }
-    ensures { λ _. ⌜ incomingOf (now (header .exit)) (now (payload .exit)) (now (taken .exit)) (now (cons .exit))
-        ≡ receivedFrom area (now (page .entry)) (incomingOf (now (header .entry)) (now (payload .entry)) (now (taken .entry)) (now (cons .entry))) unread ⌝ }
+) -> u32
+    requires { ⌜ (area + areaSize ≤ length (now page)) × (unread ≤ areaSize) × (isWhole (now header) taken ≡ false) ⌝ }
+    ensures { λ r. ⌜ incomingOf (now (header .exit)) (now (payload .exit)) (taken + r) (advanced cons r)
+        ≡ receivedFrom area (now (page .entry)) (incomingOf (now (header .entry)) (now (payload .entry)) taken cons) unread ⌝ }
+    ensures { λ r. ⌜ (r ≤ unread) × (taken + r < 2 ^ 33) ⌝ }
 {
-    let before = *taken;
-    let count = *cons;
-    let some = read_header(page, area, header, before, count, unread as u64);
+    let some = read_header(page, area, header, taken, cons, unread as u64);
     let more = read_payload(
         page,
         area,
         &header[..],
         payload,
-        before + some,
-        std::num::wrapping_add_u32(count, some as u32),
+        taken + some,
+        std::num::wrapping_add_u32(cons, some as u32),
         unread as u64 - some,
     );
-    let moved = some + more;
-    *taken = before + moved;
-    *cons = std::num::wrapping_add_u32(count, moved as u32);
+    (some + more) as u32
 }
 
 // Reads what is missing of the header, as far as it stands among the n octets from `count` on, and answers how many

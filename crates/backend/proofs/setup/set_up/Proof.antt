@@ -1,4 +1,4 @@
--- `backend::setup::set_up` meets its contract: both tests are those of `setUpOutcome`, and every interface at setup is good.
+-- `backend::setup::set_up` meets its contract: both tests are those of `setUpOutcome`, and what is written is the state at setup.
 -- Assumes nothing.
 use mathlib.Core.Path.{refl}
 use native.Mathlib.Omega.{arith}
@@ -6,38 +6,24 @@ use borrow.Author.Needs.{needs}
 use borrow.Author.Tests.{le-leb, lt-leb}
 use Rattle.messages.specs.Settings.{maxQueues}
 use Rattle.backend.specs.States.{setUpOutcome}
-use Rattle.backend.proofs.Goodness.{good-interface}
 use Rattle.backend.proofs.setup.set_up.Statement.{statement}
 use Rattle.backend.proofs.setup.set_up.Tie as tie
 
 returns : tie.Need-returns
 unfolding setUpOutcome
-returns c =
-    rw (c .refused .ensures)
-    (rw (lt-leb 1 (c .before .before .args .queues) (omega arith)) refl, good-interface 1 (omega arith) (omega arith))
+returns c = rw (lt-leb 1 (c .before .args .queues) (omega arith)) (refl, refl)
 
 returns-2 : tie.Need-returns-2
 unfolding setUpOutcome
 returns-2 c =
-    let q = c .before .before .before .args .queues in
-    rw (c .refused2 .ensures)
-    (rw (le-leb 1 q (omega arith), lt-leb q maxQueues (omega arith)) refl, good-interface 1 (omega arith) (omega arith))
+    let q = c .before .before .args .queues in
+    rw (le-leb 1 q (omega arith), lt-leb q maxQueues (omega arith)) (refl, refl)
 
 returns-3 : tie.Need-returns-3
 unfolding setUpOutcome
 returns-3 c =
-    let q = c .before .before .before .args .queues in
-    rw (c .at-setup .ensures)
-    (rw (le-leb 1 q (omega arith), le-leb q maxQueues (omega arith)) refl, good-interface q (omega arith) (omega arith))
+    let q = c .before .before .before .before .before .before .before .before .args .queues in
+    rw (le-leb 1 q (omega arith), le-leb q maxQueues (omega arith)) (refl, refl)
 
 pub set-up-spec : {M : Type 1} → statement M
-set-up-spec =
-    tie.close
-    (tie.spec
-    (λ c κs. search needs)
-    returns
-    (λ c κs. search needs)
-    returns-2
-    (λ c. search needs)
-    (λ c κs. search needs)
-    returns-3)
+set-up-spec = tie.close (tie.spec returns returns-2 returns-3)
