@@ -69,11 +69,11 @@ static void next_message(guest *guest, uint32_t queues)
 
 static void send_some(guest *guest, host *host)
 {
-    size_t unread = load32(host->page + REQ_PROD) - host->interface.incoming.req_cons;
+    size_t unread = load32(host->page + REQ_PROD) - (uint32_t)host->interface.req_cons;
     size_t room = random_below(ZWERFEN_AREA - unread + 1);
     while (room > 0) {
         if (guest->sent == guest->length)
-            next_message(guest, host->interface.settings.queues);
+            next_message(guest, (uint32_t)host->interface.queues);
         size_t left = guest->length - guest->sent;
         size_t piece = left < room ? left : room;
         put_requests(host->page, guest->message + guest->sent, piece);
@@ -85,7 +85,7 @@ static void send_some(guest *guest, host *host)
 static void read_some(const guest *guest, host *host)
 {
     uint32_t rsp_cons = load32(host->page + RSP_CONS);
-    uint32_t unread = host->interface.outgoing.rsp_prod - rsp_cons;
+    uint32_t unread = (uint32_t)host->interface.rsp_prod - rsp_cons;
     if (!guest->reads_seldom || one_in(50))
         store32(host->page + RSP_CONS, rsp_cons + (uint32_t)random_below(unread + 1));
 }
@@ -96,11 +96,11 @@ static size_t damage(host *host)
     uint32_t any = (uint32_t)next_random();
     switch (random_below(3)) {
     case 0:
-        any = one_in(2) ? any : host->interface.incoming.req_cons + about_the_limit();
+        any = one_in(2) ? any : (uint32_t)host->interface.req_cons + about_the_limit();
         store32(host->page + REQ_PROD, any);
         return ZWERFEN_PAGE;
     case 1:
-        any = one_in(2) ? any : host->interface.outgoing.rsp_prod - about_the_limit();
+        any = one_in(2) ? any : (uint32_t)host->interface.rsp_prod - about_the_limit();
         store32(host->page + RSP_CONS, any);
         return ZWERFEN_PAGE;
     default:
@@ -108,11 +108,17 @@ static size_t damage(host *host)
     }
 }
 
-static bool same_settings(const zwerfen_settings *a, const zwerfen_settings *b)
+static bool same_settings(const zwerfen_interface *a, const zwerfen_interface *b)
 {
     return a->queues == b->queues && a->flags == b->flags && memcmp(a->key, b->key, ZWERFEN_KEY) == 0 &&
-           a->mapping.count == b->mapping.count &&
-           memcmp(a->mapping.entries, b->mapping.entries, a->mapping.count) == 0;
+           a->entry_count == b->entry_count && memcmp(a->entries, b->entries, a->entry_count) == 0;
+}
+
+/* The numbers of the ring; octets that are read or written already do not matter any more. */
+static bool same_numbers(const zwerfen_interface *a, const zwerfen_interface *b)
+{
+    return a->taken == b->taken && a->req_cons == b->req_cons && a->rsp_prod == b->rsp_prod &&
+           a->ack_length - a->ack_written == b->ack_length - b->ack_written;
 }
 
 /* The page of the first host is the guest's; the second gets a copy. Both give the answer, or the benchmark ends. */
@@ -124,8 +130,10 @@ static uint32_t event_of_both(host hosts[2], size_t page_length)
         stop_because("zwerfen_event and plain_event answer differently");
     if (memcmp(hosts[0].page, hosts[1].page, ZWERFEN_PAGE) != 0)
         stop_because("zwerfen_event and plain_event leave different pages");
-    if (!same_settings(&hosts[0].interface.settings, &hosts[1].interface.settings))
+    if (!same_settings(&hosts[0].interface, &hosts[1].interface))
         stop_because("zwerfen_event and plain_event leave different settings");
+    if (!same_numbers(&hosts[0].interface, &hosts[1].interface))
+        stop_because("zwerfen_event and plain_event leave different numbers");
     return answer;
 }
 

@@ -77,9 +77,9 @@ static void make_ack_over_the_seam(scene *scene)
 {
     uint8_t message[HEADER];
     put_header(message, ZWERFEN_GET_FLAGS, 0);
-    while (scene->interface.outgoing.rsp_prod % ZWERFEN_AREA != SEAM)
+    while (scene->interface.rsp_prod % ZWERFEN_AREA != SEAM)
         request(scene->event, &scene->interface, scene->pages[0], message, sizeof message);
-    store32(scene->pages[0] + RSP_CONS, scene->interface.outgoing.rsp_prod);
+    store32(scene->pages[0] + RSP_CONS, (uint32_t)scene->interface.rsp_prod);
     add_step(scene, message, sizeof message);
 }
 

@@ -32,7 +32,7 @@ void request(event_call *event, zwerfen_interface *interface, uint8_t *page, con
         put_requests(page, message, piece);
         message += piece;
         length -= piece;
-        store32(page + RSP_CONS, interface->outgoing.rsp_prod);
+        store32(page + RSP_CONS, (uint32_t)interface->rsp_prod);
         if (event(interface, page, ZWERFEN_PAGE) != (length > 0 ? ZWERFEN_WAITING : ZWERFEN_ACK_WRITTEN))
             stop_because("a whole request was not carried out");
     }

@@ -58,7 +58,7 @@ static void next_ack(host *host, uint32_t type)
 /* The host reads some of the request and, mostly once it has read it all, writes some of the ack. */
 static void play_host(host *host, const zwerfen_guest *guest, uint8_t *page)
 {
-    uint32_t unread = guest->req_prod - host->req_cons;
+    uint32_t unread = (uint32_t)guest->req_prod - host->req_cons;
     if (!host->reads_seldom || one_in(20))
         host->req_cons += one_in(2) ? unread : (uint32_t)random_below(unread + 1);
     bool may_ack = guest->phase == ZWERFEN_GUEST_OUTSTANDING && guest->written == guest->length &&
@@ -78,10 +78,10 @@ static size_t damage(const zwerfen_guest *guest, uint8_t *page)
     uint32_t any = (uint32_t)next_random();
     switch (random_below(3)) {
     case 0:
-        store32(page + REQ_CONS, one_in(2) ? any : guest->req_prod - about_the_limit());
+        store32(page + REQ_CONS, one_in(2) ? any : (uint32_t)guest->req_prod - about_the_limit());
         return ZWERFEN_PAGE;
     case 1:
-        store32(page + RSP_PROD, one_in(2) ? any : guest->rsp_cons + about_the_limit());
+        store32(page + RSP_PROD, one_in(2) ? any : (uint32_t)guest->rsp_cons + about_the_limit());
         return ZWERFEN_PAGE;
     default:
         return one_in(2) ? ZWERFEN_PAGE + 1 : random_below(ZWERFEN_PAGE);

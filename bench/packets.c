@@ -114,7 +114,7 @@ static double steer_batch(const void *context)
     return time_per_call(now() - start, POOL, results);
 }
 
-static hash_inputs inputs = {.key = ours.settings.key, .stride = PACKET};
+static hash_inputs inputs = {.key = ours.key, .stride = PACKET};
 
 static void prepare(const void *context)
 {

@@ -17,57 +17,56 @@ uint32_t plain_set_up(zwerfen_interface *interface, uint32_t queues)
     if (queues == 0 || queues > ZWERFEN_MAX_QUEUES)
         return ZWERFEN_QUEUES;
     memset(interface, 0, sizeof *interface);
-    interface->settings.queues = (uint8_t)queues;
-    interface->settings.mapping.count = 1;
+    interface->queues = queues;
+    interface->entry_count = 1;
     return ZWERFEN_DONE;
 }
 
 static void count_taken(zwerfen_interface *interface, size_t length)
 {
-    interface->incoming.req_cons += (uint32_t)length;
-    interface->incoming.message.taken += length;
+    interface->req_cons = moved(interface->req_cons, length);
+    interface->taken += length;
 }
 
 /* Reads until the request is whole or nothing is left, and says whether it is whole. */
 static bool read_request(zwerfen_interface *interface, const uint8_t *requests, size_t unread)
 {
-    if (interface->incoming.message.taken < HEADER) {
-        size_t length = take_header(interface->incoming.message.header, interface->incoming.message.taken, requests,
-                                    interface->incoming.req_cons, unread);
+    if (interface->taken < HEADER) {
+        size_t length = take_header(interface->header, interface->taken, requests, interface->req_cons, unread);
         count_taken(interface, length);
         unread -= length;
-        if (interface->incoming.message.taken < HEADER)
+        if (interface->taken < HEADER)
             return false;
     }
-    uint64_t size = load32(interface->incoming.message.header + 4);
-    uint64_t taken = interface->incoming.message.taken - HEADER;
+    uint64_t size = load32(interface->header + 4);
+    uint64_t taken = interface->taken - HEADER;
     size_t length = least(unread, size - taken);
     /* Payload that has no place is counted alone. */
     if (length > 0 && taken < ZWERFEN_MAX_PAYLOAD)
-        copy_from_area(interface->incoming.message.payload + taken, requests, interface->incoming.req_cons,
+        copy_from_area(interface->payload + taken, requests, interface->req_cons,
                        least(length, ZWERFEN_MAX_PAYLOAD - taken));
     count_taken(interface, length);
     return taken + length == size;
 }
 
-static uint32_t set_flags(zwerfen_settings *settings, uint32_t size, const uint8_t *payload)
+static uint32_t set_flags(zwerfen_interface *interface, uint32_t size, const uint8_t *payload)
 {
     if (size != FLAGS || load64(payload) > SUPPORTED_FLAGS)
         return ZWERFEN_INVALID_PARAMETER;
-    settings->flags = payload[0];
+    interface->flags = payload[0];
     return ZWERFEN_SUCCESS;
 }
 
-static uint32_t set_key(zwerfen_settings *settings, uint32_t size, const uint8_t *payload)
+static uint32_t set_key(zwerfen_interface *interface, uint32_t size, const uint8_t *payload)
 {
     if (size != ZWERFEN_KEY)
         return ZWERFEN_INVALID_PARAMETER;
-    memcpy(settings->key, payload, ZWERFEN_KEY);
+    memcpy(interface->key, payload, ZWERFEN_KEY);
     return ZWERFEN_SUCCESS;
 }
 
 /* The table is made in a second place and moved in whole, so that a late bad entry leaves no half table. */
-static uint32_t set_mapping(zwerfen_settings *settings, uint32_t size, const uint8_t *payload)
+static uint32_t set_mapping(zwerfen_interface *interface, uint32_t size, const uint8_t *payload)
 {
     uint32_t count = size / ENTRY;
     if (size % ENTRY != 0 || count == 0 || (count & (count - 1)) != 0)
@@ -85,24 +84,24 @@ static uint32_t set_mapping(zwerfen_settings *settings, uint32_t size, const uin
     for (uint32_t i = 0; i < count; i++)
         highest = entries[i] > highest ? entries[i] : highest;
     /* Both loops can be done on many entries at once; a comparison of each whole entry could not. */
-    if (any_bit > UINT8_MAX || highest >= settings->queues)
+    if (any_bit > UINT8_MAX || highest >= interface->queues)
         return ZWERFEN_INVALID_PARAMETER;
-    memcpy(settings->mapping.entries, entries, count);
-    settings->mapping.count = (uint8_t)count;
+    memcpy(interface->entries, entries, count);
+    interface->entry_count = count;
     return ZWERFEN_SUCCESS;
 }
 
-static uint32_t judge(zwerfen_settings *settings, uint32_t type, uint32_t size, const uint8_t *payload)
+static uint32_t judge(zwerfen_interface *interface, uint32_t type, uint32_t size, const uint8_t *payload)
 {
     switch (type) {
     case ZWERFEN_GET_FLAGS:
         return size == 0 ? ZWERFEN_SUCCESS : ZWERFEN_INVALID_PARAMETER;
     case ZWERFEN_SET_FLAGS:
-        return set_flags(settings, size, payload);
+        return set_flags(interface, size, payload);
     case ZWERFEN_SET_KEY:
-        return set_key(settings, size, payload);
+        return set_key(interface, size, payload);
     case ZWERFEN_SET_MAPPING:
-        return set_mapping(settings, size, payload);
+        return set_mapping(interface, size, payload);
     default:
         return ZWERFEN_NOT_SUPPORTED;
     }
@@ -110,58 +109,57 @@ static uint32_t judge(zwerfen_settings *settings, uint32_t type, uint32_t size, 
 
 static void carry_out(zwerfen_interface *interface)
 {
-    uint32_t type = load32(interface->incoming.message.header);
-    uint32_t size = load32(interface->incoming.message.header + 4);
-    uint32_t status = judge(&interface->settings, type, size, interface->incoming.message.payload);
+    uint32_t type = load32(interface->header);
+    uint32_t size = load32(interface->header + 4);
+    uint32_t status = judge(interface, type, size, interface->payload);
     bool has_flags = type == ZWERFEN_GET_FLAGS && status == ZWERFEN_SUCCESS;
-    uint8_t *ack = interface->outgoing.ack;
+    uint8_t *ack = interface->ack;
     store64(ack, MESSAGE_ACK | (has_flags ? 16ull : 8ull) << 32);
     store64(ack + HEADER, status);
     store64(ack + HEADER + 8, SUPPORTED_FLAGS);
-    interface->outgoing.length = has_flags ? HEADER + 16 : HEADER + 8;
-    interface->outgoing.written = 0;
-    interface->incoming.message.taken = 0;
+    interface->ack_length = has_flags ? HEADER + 16 : HEADER + 8;
+    interface->ack_written = 0;
+    interface->taken = 0;
 }
 
 /* As much of the ack as fits. */
 static uint32_t write_ack(zwerfen_interface *interface, uint8_t *responses, size_t room)
 {
-    const uint8_t *ack = interface->outgoing.ack + interface->outgoing.written;
-    size_t length = least(interface->outgoing.length - interface->outgoing.written, room);
-    copy_to_area(responses, interface->outgoing.rsp_prod, ack, length, copy_words);
-    interface->outgoing.written += length;
-    interface->outgoing.rsp_prod += (uint32_t)length;
-    return interface->outgoing.written == interface->outgoing.length ? ZWERFEN_ACK_WRITTEN : ZWERFEN_ACK_OWED;
+    const uint8_t *ack = interface->ack + interface->ack_written;
+    size_t length = least(interface->ack_length - interface->ack_written, room);
+    copy_to_area(responses, interface->rsp_prod, ack, length, copy_words);
+    interface->ack_written += length;
+    interface->rsp_prod = moved(interface->rsp_prod, length);
+    return interface->ack_written == interface->ack_length ? ZWERFEN_ACK_WRITTEN : ZWERFEN_ACK_OWED;
 }
 
 uint32_t plain_event(zwerfen_interface *interface, uint8_t *page, size_t page_length)
 {
     if (page_length != ZWERFEN_PAGE)
         return ZWERFEN_PAGE_LENGTH;
-    uint32_t unread = load32(page + REQ_PROD) - interface->incoming.req_cons;
+    uint32_t unread = distance(load32(page + REQ_PROD), interface->req_cons);
     if (unread > ZWERFEN_AREA)
         return ZWERFEN_REQUEST_COUNT;
-    uint32_t unread_by_guest = interface->outgoing.rsp_prod - load32(page + RSP_CONS);
+    uint32_t unread_by_guest = distance(interface->rsp_prod, load32(page + RSP_CONS));
     if (unread_by_guest > ZWERFEN_AREA)
         return ZWERFEN_RESPONSE_COUNT;
 
     uint32_t answer = ZWERFEN_WAITING;
-    bool owed = interface->outgoing.written < interface->outgoing.length;
+    bool owed = interface->ack_written < interface->ack_length;
     if (!owed && unread > 0 && read_request(interface, page + REQUESTS, unread)) {
         carry_out(interface);
         owed = true;
     }
     if (owed)
         answer = write_ack(interface, page + RESPONSES, ZWERFEN_AREA - unread_by_guest);
-    store32(page + REQ_CONS, interface->incoming.req_cons);
-    store32(page + RSP_PROD, interface->outgoing.rsp_prod);
+    store32(page + REQ_CONS, (uint32_t)interface->req_cons);
+    store32(page + RSP_PROD, (uint32_t)interface->rsp_prod);
     return answer;
 }
 
 uint32_t plain_steer(const zwerfen_interface *interface, const uint8_t *packet, size_t packet_length,
                      uint32_t *hash_type, uint32_t *hash, uint32_t *queue)
 {
-    const zwerfen_settings *settings = &interface->settings;
     uint32_t plain_type, tcp_type, start, length;
     bool tcp;
     *queue = 0;
@@ -174,16 +172,16 @@ uint32_t plain_steer(const zwerfen_interface *interface, const uint8_t *packet, 
     } else {
         return ZWERFEN_UNHASHED;
     }
-    if (tcp && settings->flags >> tcp_type & 1) {
+    if (tcp && interface->flags >> tcp_type & 1) {
         *hash_type = tcp_type;
         length += 4;
-    } else if (settings->flags >> plain_type & 1) {
+    } else if (interface->flags >> plain_type & 1) {
         *hash_type = plain_type;
     } else {
         return ZWERFEN_UNHASHED;
     }
-    *hash = xen_netif_toeplitz_hash(settings->key, ZWERFEN_KEY, packet + start, length);
+    *hash = xen_netif_toeplitz_hash(interface->key, ZWERFEN_KEY, packet + start, length);
     /* The count is a power of two, so the remainder needs no division. */
-    *queue = settings->mapping.entries[*hash & (settings->mapping.count - 1u)];
+    *queue = interface->entries[*hash & (interface->entry_count - 1)];
     return ZWERFEN_HASHED;
 }

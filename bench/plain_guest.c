@@ -18,10 +18,10 @@ static found look(const zwerfen_guest *guest, const uint8_t *page, size_t page_l
 {
     if (page_length != ZWERFEN_PAGE)
         return (found){.refusal = ZWERFEN_PAGE_LENGTH};
-    uint32_t unread_by_host = guest->req_prod - load32(page + REQ_CONS);
+    uint32_t unread_by_host = distance(guest->req_prod, load32(page + REQ_CONS));
     if (unread_by_host > ZWERFEN_AREA)
         return (found){.refusal = ZWERFEN_REQUEST_COUNT};
-    uint32_t unread = load32(page + RSP_PROD) - guest->rsp_cons;
+    uint32_t unread = distance(load32(page + RSP_PROD), guest->rsp_cons);
     if (unread > ZWERFEN_AREA)
         return (found){.refusal = ZWERFEN_RESPONSE_COUNT};
     if (guest->phase == ZWERFEN_GUEST_FAILED)
@@ -39,8 +39,8 @@ static found look_before_start(const zwerfen_guest *guest, const uint8_t *page, 
 
 static void put_own_counts(const zwerfen_guest *guest, uint8_t *page)
 {
-    store32(page + REQ_PROD, guest->req_prod);
-    store32(page + RSP_CONS, guest->rsp_cons);
+    store32(page + REQ_PROD, (uint32_t)guest->req_prod);
+    store32(page + RSP_CONS, (uint32_t)guest->rsp_cons);
 }
 
 /* Of a long request only the first octets were stored a moment ago, so the faster copy is worth a wait. */
@@ -58,7 +58,7 @@ static uint32_t write_request(zwerfen_guest *guest, uint8_t *page, size_t room)
     size_t length = least(guest->length - guest->written, room);
     copy_to_area(page + REQUESTS, guest->req_prod, guest->request + guest->written, length, copy_request);
     guest->written += length;
-    guest->req_prod += (uint32_t)length;
+    guest->req_prod = moved(guest->req_prod, length);
     return guest->written == guest->length ? ZWERFEN_REQUEST_PENDING : ZWERFEN_REQUEST_OWED;
 }
 
@@ -124,7 +124,7 @@ uint32_t plain_guest_start_set_mapping(zwerfen_guest *guest, uint8_t *page, size
 
 static void count_taken(zwerfen_guest *guest, size_t length)
 {
-    guest->rsp_cons += (uint32_t)length;
+    guest->rsp_cons = moved(guest->rsp_cons, length);
     guest->taken += length;
 }
 
@@ -178,7 +178,7 @@ uint32_t plain_guest_event(zwerfen_guest *guest, uint8_t *page, size_t page_leng
         return found.refusal;
     uint32_t answer = ZWERFEN_REQUEST_PENDING;
     if (guest->phase == ZWERFEN_GUEST_OUTSTANDING) {
-        uint32_t rsp_cons = guest->rsp_cons;
+        uint64_t rsp_cons = guest->rsp_cons;
         if (guest->written < guest->length)
             answer = write_request(guest, page, found.room);
         else if (found.unread > 0)

@@ -14,8 +14,20 @@ static inline uint64_t least(uint64_t a, uint64_t b)
     return a < b ? a : b;
 }
 
+/* A count has 32 bits and is kept in 64, so it is cut where it moves. */
+static inline uint64_t moved(uint64_t count, size_t octets)
+{
+    return (uint32_t)(count + octets);
+}
+
+/* How far a count is ahead of another. */
+static inline uint32_t distance(uint64_t ahead, uint64_t behind)
+{
+    return (uint32_t)(ahead - behind);
+}
+
 /* Octets of an area from the one with this count on. */
-static inline void copy_from_area(uint8_t *to, const uint8_t *area, uint32_t count, size_t length)
+static inline void copy_from_area(uint8_t *to, const uint8_t *area, uint64_t count, size_t length)
 {
     size_t at = count % ZWERFEN_AREA;
     size_t to_the_end = ZWERFEN_AREA - at;
@@ -31,7 +43,7 @@ static inline void copy_from_area(uint8_t *to, const uint8_t *area, uint32_t cou
  * Takes what is missing of a header, as far as it is there, and answers how many octets that is. Most headers come
  * whole and in one piece, so they are spared the copy of a length known only at run time.
  */
-static inline size_t take_header(uint8_t *header, uint64_t taken, const uint8_t *area, uint32_t count, size_t unread)
+static inline size_t take_header(uint8_t *header, uint64_t taken, const uint8_t *area, uint64_t count, size_t unread)
 {
     size_t at = count % ZWERFEN_AREA;
     size_t length = least(unread, HEADER - taken);
@@ -54,7 +66,7 @@ static inline void copy_words(uint8_t *to, const uint8_t *from, size_t length)
 typedef void copying(uint8_t *to, const uint8_t *from, size_t length);
 
 /* Octets to an area from the place with this count on, each of the two parts by the copying that suits them. */
-static inline void copy_to_area(uint8_t *area, uint32_t count, const uint8_t *from, size_t length, copying *copy)
+static inline void copy_to_area(uint8_t *area, uint64_t count, const uint8_t *from, size_t length, copying *copy)
 {
     size_t at = count % ZWERFEN_AREA;
     size_t end_part = least(length, ZWERFEN_AREA - at);

@@ -94,43 +94,48 @@ extern "C" {
 #define ZWERFEN_MAX_QUEUES 64u
 
 /*
+ * The two structs below have no padding: the 64-bit numbers stand first and the arrays, each of a multiple of eight octets,
+ * behind them. A setup that is not refused writes every octet, and the calls after it add only what the page and the caller
+ * gave them. So a host which stores or sends a struct gives nothing else away: nothing of what this memory, or a stack, had
+ * in it before.
+ */
+
+/*
  * One interface, in the host's memory. zwerfen_set_up fills it and zwerfen_event changes it. A host may read it and may
  * copy it while no call runs on it; it must not write into it. A state that did not come from these two calls is the one
  * thing that the library presumes away.
  */
-typedef struct zwerfen_settings {
-    uint8_t queues;               /* queues in operation, as given at setup */
-    uint8_t flags;                /* the hash types to use */
-    uint8_t key[ZWERFEN_KEY];     /* as the guest wrote it */
-    struct {
-        uint8_t entries[ZWERFEN_MAX_ENTRIES]; /* the queue of each entry */
-        uint8_t count;                        /* how many of them there are */
-    } mapping;
-} zwerfen_settings;
-
 typedef struct zwerfen_interface {
-    zwerfen_settings settings;
-    struct {
-        struct {
-            uint8_t header[8];
-            uint8_t payload[ZWERFEN_MAX_PAYLOAD];
-            uint64_t taken; /* octets read of the present request */
-        } message;
-        uint32_t req_cons;
-    } incoming;
-    struct {
-        uint8_t ack[ZWERFEN_MAX_ACK];
-        size_t length;  /* octets of the ack */
-        size_t written; /* how many of them are on the page */
-        uint32_t rsp_prod;
-    } outgoing;
+    uint64_t queues;                      /* queues in operation, as given at setup */
+    uint64_t flags;                       /* the hash types to use */
+    uint64_t entry_count;                 /* entries of the mapping */
+    uint64_t taken;                       /* octets read of the present request */
+    uint64_t req_cons;                    /* a 32-bit count, as on the page */
+    uint64_t ack_length;                  /* octets of the ack */
+    uint64_t ack_written;                 /* how many of them are on the page */
+    uint64_t rsp_prod;                    /* a 32-bit count, as on the page */
+    uint8_t header[8];                    /* of the present request, as is the payload */
+    uint8_t payload[ZWERFEN_MAX_PAYLOAD];
+    uint8_t ack[ZWERFEN_MAX_ACK];
+    uint8_t key[ZWERFEN_KEY];             /* as the guest wrote it */
+    uint8_t entries[ZWERFEN_MAX_ENTRIES]; /* the queue of each entry of the mapping */
 } zwerfen_interface;
 
 ZWERFEN_STATIC_ASSERT(sizeof(size_t) == 8, "the library is for 64-bit hosts");
-ZWERFEN_STATIC_ASSERT(sizeof(zwerfen_settings) == 171, "zwerfen_settings has no padding");
-ZWERFEN_STATIC_ASSERT(offsetof(zwerfen_interface, incoming) == 176, "incoming stands behind 5 octets of padding");
-ZWERFEN_STATIC_ASSERT(offsetof(zwerfen_interface, outgoing) == 1224, "outgoing stands behind 4 octets of padding");
-ZWERFEN_STATIC_ASSERT(sizeof(zwerfen_interface) == 1272, "zwerfen_interface is 1,272 octets");
+ZWERFEN_STATIC_ASSERT(offsetof(zwerfen_interface, queues) == 0, "queues stands first");
+ZWERFEN_STATIC_ASSERT(offsetof(zwerfen_interface, flags) == 8, "flags stands behind queues");
+ZWERFEN_STATIC_ASSERT(offsetof(zwerfen_interface, entry_count) == 16, "entry_count stands behind flags");
+ZWERFEN_STATIC_ASSERT(offsetof(zwerfen_interface, taken) == 24, "taken stands behind entry_count");
+ZWERFEN_STATIC_ASSERT(offsetof(zwerfen_interface, req_cons) == 32, "req_cons stands behind taken");
+ZWERFEN_STATIC_ASSERT(offsetof(zwerfen_interface, ack_length) == 40, "ack_length stands behind req_cons");
+ZWERFEN_STATIC_ASSERT(offsetof(zwerfen_interface, ack_written) == 48, "ack_written stands behind ack_length");
+ZWERFEN_STATIC_ASSERT(offsetof(zwerfen_interface, rsp_prod) == 56, "rsp_prod stands behind ack_written");
+ZWERFEN_STATIC_ASSERT(offsetof(zwerfen_interface, header) == 64, "header stands behind rsp_prod");
+ZWERFEN_STATIC_ASSERT(offsetof(zwerfen_interface, payload) == 72, "payload stands behind header");
+ZWERFEN_STATIC_ASSERT(offsetof(zwerfen_interface, ack) == 1096, "ack stands behind payload");
+ZWERFEN_STATIC_ASSERT(offsetof(zwerfen_interface, key) == 1120, "key stands behind ack");
+ZWERFEN_STATIC_ASSERT(offsetof(zwerfen_interface, entries) == 1160, "entries stands behind key");
+ZWERFEN_STATIC_ASSERT(sizeof(zwerfen_interface) == 1288, "zwerfen_interface ends with entries");
 
 /*
  * The guest's end of one ring, in the driver's memory. zwerfen_guest_set_up fills it, and the other calls of a guest change
@@ -138,33 +143,33 @@ ZWERFEN_STATIC_ASSERT(sizeof(zwerfen_interface) == 1272, "zwerfen_interface is 1
  * not come from these calls is presumed away.
  */
 typedef struct zwerfen_guest {
-    uint32_t phase;
+    uint64_t phase;
+    uint64_t length;                      /* octets of the request */
+    uint64_t written;                     /* how many of them are on the page */
+    uint64_t req_prod;                    /* a 32-bit count, as on the page */
+    uint64_t taken;                       /* octets read of the present ack */
+    uint64_t rsp_cons;                    /* a 32-bit count, as on the page */
     uint8_t request[ZWERFEN_MAX_REQUEST]; /* the present request, or the last one */
-    size_t length;                        /* octets of the request */
-    size_t written;                       /* how many of them are on the page */
-    uint32_t req_prod;
-    uint8_t header[8]; /* of the ack, as is the payload */
+    uint8_t header[8];                    /* of the present ack, as is the payload */
     uint8_t payload[ZWERFEN_MAX_ACK_PAYLOAD];
-    uint64_t taken; /* octets read of the present ack */
-    uint32_t rsp_cons;
 } zwerfen_guest;
 
 ZWERFEN_STATIC_ASSERT(offsetof(zwerfen_guest, phase) == 0, "phase stands first");
-ZWERFEN_STATIC_ASSERT(offsetof(zwerfen_guest, request) == 4, "request stands behind phase");
-ZWERFEN_STATIC_ASSERT(offsetof(zwerfen_guest, length) == 1040, "length stands behind 4 octets of padding");
-ZWERFEN_STATIC_ASSERT(offsetof(zwerfen_guest, written) == 1048, "written stands behind length");
-ZWERFEN_STATIC_ASSERT(offsetof(zwerfen_guest, req_prod) == 1056, "req_prod stands behind written");
-ZWERFEN_STATIC_ASSERT(offsetof(zwerfen_guest, header) == 1060, "header stands behind req_prod");
-ZWERFEN_STATIC_ASSERT(offsetof(zwerfen_guest, payload) == 1068, "payload stands behind header");
-ZWERFEN_STATIC_ASSERT(offsetof(zwerfen_guest, taken) == 1088, "taken stands behind 4 octets of padding");
-ZWERFEN_STATIC_ASSERT(offsetof(zwerfen_guest, rsp_cons) == 1096, "rsp_cons stands behind taken");
-ZWERFEN_STATIC_ASSERT(sizeof(zwerfen_guest) == 1104, "zwerfen_guest is 1,104 octets");
+ZWERFEN_STATIC_ASSERT(offsetof(zwerfen_guest, length) == 8, "length stands behind phase");
+ZWERFEN_STATIC_ASSERT(offsetof(zwerfen_guest, written) == 16, "written stands behind length");
+ZWERFEN_STATIC_ASSERT(offsetof(zwerfen_guest, req_prod) == 24, "req_prod stands behind written");
+ZWERFEN_STATIC_ASSERT(offsetof(zwerfen_guest, taken) == 32, "taken stands behind req_prod");
+ZWERFEN_STATIC_ASSERT(offsetof(zwerfen_guest, rsp_cons) == 40, "rsp_cons stands behind taken");
+ZWERFEN_STATIC_ASSERT(offsetof(zwerfen_guest, request) == 48, "request stands behind rsp_cons");
+ZWERFEN_STATIC_ASSERT(offsetof(zwerfen_guest, header) == 1080, "header stands behind request");
+ZWERFEN_STATIC_ASSERT(offsetof(zwerfen_guest, payload) == 1088, "payload stands behind header");
+ZWERFEN_STATIC_ASSERT(sizeof(zwerfen_guest) == 1104, "zwerfen_guest ends with payload");
 
 /* ---- The host ---- */
 
 /*
  * Sets up an interface with this many queues in operation, 1 to 64: no flags, a key of zeros, a mapping of one entry with
- * queue 0, nothing read and no ack owed. What was in *interface before does not matter.
+ * queue 0, nothing read and no ack owed. What was in *interface before does not matter, and nothing of it stays.
  * Refuses by ZWERFEN_QUEUES.
  */
 uint32_t zwerfen_set_up(zwerfen_interface *interface, uint32_t queues);
@@ -230,7 +235,7 @@ uint32_t zwerfen_two_way(const uint8_t *key, size_t key_length, uint32_t hash_ty
 
 /*
  * Sets up a guest: no request, nothing written and nothing read, both own counts 0, as on a zeroed page. What was in *guest
- * before does not matter. Refuses nothing.
+ * before does not matter, and nothing of it stays. Refuses nothing.
  */
 void zwerfen_guest_set_up(zwerfen_guest *guest);
 

@@ -1,18 +1,38 @@
-"""The file `cases` that a test program runs, and the digest by which it prints many octets in few."""
+"""The files of cases that a test program runs, and the digest by which it prints many octets in few."""
 
-MOST = 65536
+# A program reads the files `cases0`, `cases1`, .. one after the other, so many of them and so many octets of each.
+MOST_PARTS = 10
+MOST_OF_A_PART = 32768
 
 
-def case_file(cases):
-    """Cases one after the other: the kind, an octet, the length of the body, two octets lowest first, and the body."""
-    data = b"".join(bytes([kind]) + len(body).to_bytes(2, "little") + body for kind, body in cases)
-    assert len(data) <= MOST, f"a program reads no more than {MOST} octets of cases, not {len(data)}"
-    return data
+def case_octets(kind, body):
+    """The kind, an octet, the length of the body, two octets lowest first, and the body."""
+    return bytes([kind]) + len(body).to_bytes(2, "little") + body
+
+
+def parts(cases):
+    """The cases one after the other, in as few parts as they fit, with no case in two of them."""
+    made = [b""]
+    for kind, body in cases:
+        octets = case_octets(kind, body)
+        assert len(octets) <= MOST_OF_A_PART, f"a case of {len(octets)} octets does not fit a part of {MOST_OF_A_PART}"
+        if len(made[-1]) + len(octets) > MOST_OF_A_PART:
+            made.append(b"")
+        made[-1] += octets
+    return made
+
+
+def case_files(program, cases):
+    """The octets of each file of cases of a program, by the file's name."""
+    made = parts(cases)
+    assert len(made) <= MOST_PARTS, f"{program} reads no more than {MOST_PARTS} files of cases, not {len(made)}"
+    return {f"cases{number}": octets for number, octets in enumerate(made)}
 
 
 def program_files(program, cases, lines):
-    """The two stored files of a test program, by their paths below crates/: its cases, and the lines that it must print."""
-    return {f"{program}/data/cases": case_file(cases), f"{program}/stdout": "".join(lines).encode()}
+    """The stored files of a test program, by their paths below crates/: its cases, and the lines that it must print."""
+    stored = {f"{program}/data/{name}": octets for name, octets in case_files(program, cases).items()}
+    return {**stored, f"{program}/stdout": "".join(lines).encode()}
 
 
 def digest(data):

@@ -1,6 +1,6 @@
 """The cases of the guest's end of the ring, against the host's end and against hosts of all other sorts.
 
-The program `guest_vectors` runs them from its file `cases`. It keeps one guest, one interface of the host, at its start
+The program `guest_vectors` runs them from its files of cases. It keeps one guest, one interface of the host, at its start
 set up with one queue, and one buffer of 4,160 octets, at its start all zero, whose first octets are the page lent.
 """
 

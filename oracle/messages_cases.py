@@ -1,6 +1,6 @@
 """The cases of the control messages, with what document 01's worked lines say of them.
 
-The program `message_vectors` runs them from its file `cases`. A set-up case starts a new interface, and the requests
+The program `message_vectors` runs them from its files of cases. A set-up case starts a new interface, and the requests
 behind it act on that one.
 """
 

@@ -1,6 +1,6 @@
 """The cases of packets: what kind each is, its hash and its queue, with what is known of them from elsewhere.
 
-The program `packet_vectors` runs them from its file `cases`. A settings case holds for the packets behind it.
+The program `packet_vectors` runs them from its files of cases. A settings case holds for the packets behind it.
 """
 
 import packets

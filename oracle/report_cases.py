@@ -1,6 +1,6 @@
 """The cases of the capture report, with what is known of it from elsewhere.
 
-The program `report_vectors` runs them from its file `cases`. It keeps a settings file and a capture, at its start both
+The program `report_vectors` runs them from its files of cases. It keeps a settings file and a capture, at its start both
 empty, and prints the report on them, on each beginning of one of them, or on both with zeros behind them.
 """
 

@@ -1,6 +1,6 @@
 """The cases of the hash and the two-way question, with what is known of them from elsewhere.
 
-Each case is (kind, first part, second part). The program `hash_vectors` runs them from its file `cases`, in the
+Each case is (kind, first part, second part). The program `hash_vectors` runs them from its files of cases, in the
 body of each the length of the first part, an octet, and then the parts.
 """
 

@@ -160,21 +160,27 @@ static unsigned take_turns(struct ring *ring, uint32_t answer, uint32_t *status,
     return events + 1;
 }
 
+static bool same_settings(const zwerfen_interface *a, const zwerfen_interface *b)
+{
+    return a->queues == b->queues && a->flags == b->flags && memcmp(a->key, b->key, sizeof a->key) == 0 &&
+           a->entry_count == b->entry_count && memcmp(a->entries, b->entries, sizeof a->entries) == 0;
+}
+
 /* Has a request carried out and its ack read, and prints a line about both. */
 static void ask(struct ring *ring, struct request request, uint32_t expected_status)
 {
-    zwerfen_settings before = ring->host.settings;
+    zwerfen_interface before = ring->host;
     uint32_t status, flags;
     unsigned events = take_turns(ring, guest_start(ring, &request), &status, &flags);
     must(status == expected_status, "%s: the ack has status %" PRIu32, request.name, status);
 
-    printf("  %-40s %6zu %6u    status %" PRIu32, request.name, ring->guest.length, events, status);
+    printf("  %-40s %6" PRIu64 " %6u    status %" PRIu32, request.name, ring->guest.length, events, status);
     if (request.type == ZWERFEN_GET_FLAGS) {
         must(flags == 15, "the host supports all four hash types");
         printf(", flags %" PRIu32 " are supported", flags);
     }
     if (status != ZWERFEN_SUCCESS) {
-        must(memcmp(&before, &ring->host.settings, sizeof before) == 0, "a refused request changed the settings");
+        must(same_settings(&before, &ring->host), "a refused request changed the settings");
         printf(", and nothing has changed");
     }
     putchar('\n');
@@ -269,7 +275,7 @@ static void check_hash(const zwerfen_interface *host, const struct packet *packe
 {
     bool is_ipv6 = steering->hash_type == ZWERFEN_IPV6_TCP;
     uint32_t hash;
-    uint32_t answer = zwerfen_hash(host->settings.key, ZWERFEN_KEY, packet->octets + (is_ipv6 ? 8 : 12),
+    uint32_t answer = zwerfen_hash(host->key, ZWERFEN_KEY, packet->octets + (is_ipv6 ? 8 : 12),
                                    is_ipv6 ? 36 : 12, &hash);
     must_answer("zwerfen_hash", answer, ZWERFEN_DONE);
     must(hash == steering->hash, "%s: zwerfen_hash and zwerfen_steer give different hashes", packet->name);

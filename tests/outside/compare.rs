@@ -1,6 +1,7 @@
 //! One comparison for each call: the library and the rules get the same input and must leave the same behind.
 
 pub mod guest;
+pub mod set_ups;
 
 use std::collections::BTreeMap;
 use std::fmt;
@@ -220,30 +221,30 @@ impl Both {
     /// Puts other own counts into an interface that has just been set up: events could have brought it there.
     pub fn start_at(&mut self, req_cons: u32, rsp_prod: u32) {
         let interface = self.room.fields_mut();
-        (interface.incoming.req_cons, interface.outgoing.rsp_prod) = (req_cons, rsp_prod);
+        (interface.req_cons, interface.rsp_prod) = (req_cons.into(), rsp_prod.into());
         (self.model.req_cons, self.model.rsp_prod) = (req_cons, rsp_prod);
     }
 }
 
-/// What the rules settle of the library's interface; none if a length in it is outside of its array.
+/// What the rules settle of the library's interface; none if a length in it is outside of its array, or a count has
+/// more than 32 bits.
 fn settled(interface: &library::Interface) -> Option<rules::Interface> {
-    let (settings, outgoing) = (&interface.settings, &interface.outgoing);
-    let message = &interface.incoming.message;
-    let header = &message.header[..message.taken.min(8) as usize];
-    let payload_kept = match number(&message.header[4..8]) {
-        0..=rules::MAX_PAYLOAD => message.taken.saturating_sub(8),
+    let header = &interface.header[..interface.taken.min(8) as usize];
+    let payload_kept = match number(&interface.header[4..8]) {
+        0..=rules::MAX_PAYLOAD => interface.taken.saturating_sub(8),
         _ => 0,
     };
+    let owed = interface.ack_written as usize..interface.ack_length as usize;
     Some(rules::Interface {
-        queues: settings.queues.into(),
-        flags: settings.flags.into(),
-        key: settings.key.to_vec(),
-        mapping: settings.mapping.entries.get(..settings.mapping.count.into())?.iter().map(|&e| e.into()).collect(),
-        taken: message.taken,
-        kept: [header, message.payload.get(..payload_kept as usize)?].concat(),
-        req_cons: interface.incoming.req_cons,
-        owed: outgoing.ack.get(outgoing.written..outgoing.length)?.to_vec(),
-        rsp_prod: outgoing.rsp_prod,
+        queues: interface.queues,
+        flags: interface.flags,
+        key: interface.key.to_vec(),
+        mapping: interface.entries.get(..interface.entry_count as usize)?.iter().map(|&e| e.into()).collect(),
+        taken: interface.taken,
+        kept: [header, interface.payload.get(..payload_kept as usize)?].concat(),
+        req_cons: interface.req_cons.try_into().ok()?,
+        owed: interface.ack.get(owed)?.to_vec(),
+        rsp_prod: interface.rsp_prod.try_into().ok()?,
     })
 }
 
@@ -264,7 +265,7 @@ fn fields_of(interface: &rules::Interface) -> Facts {
 fn fields_in(room: &InterfaceRoom) -> Facts {
     match settled(room.fields()) {
         Some(interface) => fields_of(&interface),
-        None => facts![("interface with a length outside of its array", room.octets())],
+        None => facts![("interface with a length outside of its array, or a count too long", room.octets())],
     }
 }
 

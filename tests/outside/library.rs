@@ -1,94 +1,57 @@
 //! The calls of the library as its C header declares them, each in a safe function that lends slices and places.
 
-use std::mem::{offset_of, size_of};
+use std::mem::size_of;
 use std::ptr::{null, null_mut, NonNull};
 
-#[repr(C)]
-#[derive(Clone, Copy)]
-pub struct Mapping {
-    pub entries: [u8; 128],
-    pub count: u8,
+/// A struct that stands in the caller's memory between calls. Its fields are numbers, which have no invalid values.
+pub trait State: Copy {}
+
+/// Declares a struct as the header does, and sees that all of its octets are of its fields: that there is no padding.
+macro_rules! state {
+    ($name:ident of $size:ident octets { $($field:ident: $type:ty,)* }) => {
+        #[repr(C)]
+        #[derive(Clone, Copy)]
+        pub struct $name {
+            $(pub $field: $type,)*
+        }
+
+        impl State for $name {}
+
+        const _: () = assert!(size_of::<$name>() == $size && $(size_of::<$type>() +)* 0 == $size);
+    };
 }
 
-#[repr(C)]
-#[derive(Clone, Copy)]
-pub struct Settings {
-    pub queues: u8,
-    pub flags: u8,
-    pub key: [u8; 40],
-    pub mapping: Mapping,
-}
+const INTERFACE: usize = 1288;
 
-#[repr(C)]
-#[derive(Clone, Copy)]
-pub struct Message {
-    pub header: [u8; 8],
-    pub payload: [u8; 1024],
-    pub taken: u64,
-}
-
-#[repr(C)]
-#[derive(Clone, Copy)]
-pub struct Incoming {
-    pub message: Message,
-    pub req_cons: u32,
-}
-
-#[repr(C)]
-#[derive(Clone, Copy)]
-pub struct Outgoing {
-    pub ack: [u8; 24],
-    pub length: usize,
-    pub written: usize,
-    pub rsp_prod: u32,
-}
-
-#[repr(C)]
-#[derive(Clone, Copy)]
-pub struct Interface {
-    pub settings: Settings,
-    pub incoming: Incoming,
-    pub outgoing: Outgoing,
-}
-
-#[repr(C)]
-#[derive(Clone, Copy)]
-pub struct Guest {
-    pub phase: u32,
-    pub request: [u8; 1032],
-    pub length: usize,
-    pub written: usize,
-    pub req_prod: u32,
-    pub header: [u8; 8],
-    pub payload: [u8; 16],
-    pub taken: u64,
-    pub rsp_cons: u32,
-}
-
-const INTERFACE: usize = 1272;
-const _: () = assert!(size_of::<Settings>() == 171 && size_of::<Interface>() == INTERFACE);
-const _: () = assert!(offset_of!(Interface, incoming) == 176 && offset_of!(Interface, outgoing) == 1224);
+state!(Interface of INTERFACE octets {
+    queues: u64,
+    flags: u64,
+    entry_count: u64,
+    taken: u64,
+    req_cons: u64,
+    ack_length: u64,
+    ack_written: u64,
+    rsp_prod: u64,
+    header: [u8; 8],
+    payload: [u8; 1024],
+    ack: [u8; 24],
+    key: [u8; 40],
+    entries: [u8; 128],
+});
 
 const GUEST: usize = 1104;
-const _: () = assert!(offset_of!(Guest, phase) == 0 && offset_of!(Guest, request) == 4);
-const _: () = assert!(offset_of!(Guest, length) == 1040 && offset_of!(Guest, written) == 1048);
-const _: () = assert!(offset_of!(Guest, req_prod) == 1056 && offset_of!(Guest, header) == 1060);
-const _: () = assert!(offset_of!(Guest, payload) == 1068 && offset_of!(Guest, taken) == 1088);
-const _: () = assert!(offset_of!(Guest, rsp_cons) == 1096 && size_of::<Guest>() == GUEST);
 
-/// A struct that stands in the caller's memory between calls. Its fields are numbers, which have no invalid values.
-pub trait State: Copy {
-    /// Where no field stands.
-    const PADDING: [(usize, usize); 3];
-}
-
-impl State for Interface {
-    const PADDING: [(usize, usize); 3] = [(171, 176), (1220, 1224), (1268, INTERFACE)];
-}
-
-impl State for Guest {
-    const PADDING: [(usize, usize); 3] = [(1036, 1040), (1084, 1088), (1100, GUEST)];
-}
+state!(Guest of GUEST octets {
+    phase: u64,
+    length: u64,
+    written: u64,
+    req_prod: u64,
+    taken: u64,
+    rsp_cons: u64,
+    request: [u8; 1032],
+    header: [u8; 8],
+    payload: [u8; 16],
+});
 
 extern "C" {
     fn zwerfen_set_up(interface: *mut Interface, queues: u32) -> u32;
@@ -173,7 +136,7 @@ fn parts_mut<T>(slice: SliceMut<T>) -> (*mut T, usize) {
     }
 }
 
-/// The memory of a struct, seen by its fields and, its padding included, by its octets.
+/// The memory of a struct, seen by its fields and by its octets.
 pub union Room<T: State, const SIZE: usize> {
     fields: T,
     octets: [u8; SIZE],
@@ -184,8 +147,12 @@ pub type GuestRoom = Room<Guest, GUEST>;
 
 impl<T: State, const SIZE: usize> Room<T, SIZE> {
     /// Memory as it happens to be before setup.
+    pub fn with(octets: [u8; SIZE]) -> Box<Self> {
+        Box::new(Room { octets })
+    }
+
     pub fn filled(octet: u8) -> Box<Self> {
-        Box::new(Room { octets: [octet; SIZE] })
+        Room::with([octet; SIZE])
     }
 
     pub fn octets(&self) -> &[u8] {
@@ -202,24 +169,13 @@ impl<T: State, const SIZE: usize> Room<T, SIZE> {
         // As above.
         unsafe { &mut self.fields }
     }
-
-    /// What stands between the fields after setup is not settled. It gets a value, so that whole rooms can be compared.
-    fn settle_padding(&mut self) {
-        for (start, end) in T::PADDING {
-            unsafe { self.octets[start..end].fill(0) }
-        }
-    }
 }
 
 // In each call below the pointers are of live slices of the lengths given and of live places, or are null or dangling
 // with length 0, and what is written is borrowed for this call alone. Calls on a room are made only once it is set up.
 
 pub fn set_up(room: &mut InterfaceRoom, queues: u32) -> u32 {
-    let answer = unsafe { zwerfen_set_up(room.fields_mut(), queues) };
-    if answer == 0 {
-        room.settle_padding();
-    }
-    answer
+    unsafe { zwerfen_set_up(room.fields_mut(), queues) }
 }
 
 pub fn event(room: &mut InterfaceRoom, page: SliceMut<u8>) -> u32 {
@@ -269,7 +225,6 @@ pub fn read_ack(request_type: u32, message: Slice<u8>, status: &mut u32, flags: 
 
 pub fn guest_set_up(room: &mut GuestRoom) {
     unsafe { zwerfen_guest_set_up(room.fields_mut()) }
-    room.settle_padding();
 }
 
 pub fn guest_start_get_flags(room: &mut GuestRoom, page: SliceMut<u8>) -> u32 {

@@ -228,6 +228,12 @@ pub trait Rules {
         })
     }
 
+    /// A setup writes every octet, so that it leaves what another one alike left, whatever memory and stack had before. A
+    /// refused one leaves what was there.
+    fn after_set_up(&self, is_refused: bool, alike: &[u8], before: &[u8]) -> Vec<u8> {
+        if is_refused { before } else { alike }.to_vec()
+    }
+
     /// A producer's count may be at most this far ahead of the consumer's.
     fn farthest(&self) -> u32 {
         AREA

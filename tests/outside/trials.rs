@@ -54,10 +54,15 @@ fn no_octets(call: Call, comparison: &mut Comparison) -> Result<(), Difference> 
     Ok(())
 }
 
-/// Known answers, all small numbers, every damage of every ack, and every combination of refusals.
+/// Known answers, all small numbers, setups that must leave the same, every damage of every ack, and every combination of
+/// refusals.
 fn settled_inputs(call: Call, comparison: &mut Comparison) -> Result<(), Difference> {
     match call {
-        Call::SetUp => (0..=70).try_for_each(|queues| comparison.set_up(queues).map(|_| ())),
+        Call::SetUp => (0..=70).chain([256, 257, u32::MAX]).try_for_each(|queues| {
+            comparison.set_up(queues)?;
+            comparison.set_ups_alike(queues)
+        }),
+        Call::GuestSetUp => comparison.guest_set_ups_alike(),
         Call::Hash => worked::hashes().iter().try_for_each(|(key, input, _)| comparison.hash(Some(key), Some(input))),
         Call::TwoWay => {
             let mut ask = |(key, hash_type, _): &(Vec<u8>, u32, _)| comparison.two_way(Some(key), *hash_type);

@@ -3,6 +3,13 @@
 use crate::compare::Call;
 use crate::rules::*;
 
+/// These octets, but for one that is as it was before.
+fn with_one_left(octets: &[u8], before: &[u8], at: usize) -> Vec<u8> {
+    let mut octets = octets.to_vec();
+    octets[at] = before[at];
+    octets
+}
+
 macro_rules! wrong_rules {
     ($($call:ident, $words:literal: { $rule:item })*) => {
         /// Each set of rules with one wrong, the call that must tell it from the library, and what is wrong in words.
@@ -27,6 +34,31 @@ wrong_rules! {
             let mut interface = Written.set_up(queues)?;
             interface.key[39] = 1;
             Ok(interface)
+        }
+    }
+    SetUp, "the first octet stays as it was": {
+        fn after_set_up(&self, is_refused: bool, alike: &[u8], before: &[u8]) -> Vec<u8> {
+            if is_refused { before.to_vec() } else { with_one_left(alike, before, 0) }
+        }
+    }
+    SetUp, "the top octet of a count stays as it was": {
+        fn after_set_up(&self, is_refused: bool, alike: &[u8], before: &[u8]) -> Vec<u8> {
+            if is_refused { before.to_vec() } else { with_one_left(alike, before, 39) }
+        }
+    }
+    SetUp, "the last octet of the payload stays as it was": {
+        fn after_set_up(&self, is_refused: bool, alike: &[u8], before: &[u8]) -> Vec<u8> {
+            if is_refused { before.to_vec() } else { with_one_left(alike, before, 1095) }
+        }
+    }
+    SetUp, "the last octet stays as it was": {
+        fn after_set_up(&self, is_refused: bool, alike: &[u8], before: &[u8]) -> Vec<u8> {
+            if is_refused { before.to_vec() } else { with_one_left(alike, before, alike.len() - 1) }
+        }
+    }
+    SetUp, "a refused setup writes the last octet": {
+        fn after_set_up(&self, is_refused: bool, alike: &[u8], before: &[u8]) -> Vec<u8> {
+            if is_refused { with_one_left(before, alike, alike.len() - 1) } else { alike.to_vec() }
         }
     }
     Event, "the page's own req_cons is read": {
@@ -313,6 +345,16 @@ wrong_rules! {
     GuestSetUp, "the own req_prod begins at 1": {
         fn guest_set_up(&self) -> Guest {
             Guest { req_prod: 1, ..Written.guest_set_up() }
+        }
+    }
+    GuestSetUp, "the first octet of the request stays as it was": {
+        fn after_set_up(&self, _is_refused: bool, alike: &[u8], before: &[u8]) -> Vec<u8> {
+            with_one_left(alike, before, 48)
+        }
+    }
+    GuestSetUp, "the last octet stays as it was": {
+        fn after_set_up(&self, _is_refused: bool, alike: &[u8], before: &[u8]) -> Vec<u8> {
+            with_one_left(alike, before, alike.len() - 1)
         }
     }
     GuestStartGetFlags, "a start is taken while a request is outstanding": {

@@ -12,11 +12,11 @@ use Rattle.octets.specs.Outcome.{value}
 use Rattle.octets.proofs.Numbers.{number-same}
 use Rattle.messages.specs.Wire.{typeIn, sizeIn, payloadIn}
 use Rattle.messages.specs.Requests.{requestOf, ackIn, carriedMessage}
-use Rattle.messages.specs.declared.Settings.{Settings}
+use Rattle.messages.specs.Settings.{Settings}
 use Rattle.messages.proofs.Theorems.{ack-carries-status}
 use Rattle.ring.specs.Page.{reqConsAt, rspProdAt, responsesAt, less, advanced, octetsIn}
 use Rattle.ring.specs.Reading.{messageLength, received, receivedFrom}
-use Rattle.ring.specs.declared.Message.{Message}
+use Rattle.ring.specs.Reading.{Message}
 use Rattle.ring.proofs.Turns.{parts}
 use Rattle.ring.proofs.Sides.{less-advanced}
 use Rattle.ring.proofs.Untouched.{guest-counted-length, guest-counted-others}
@@ -24,7 +24,7 @@ use Rattle.backend.specs.States.{Good as GoodHost}
 use Rattle.guest_messages.specs.Reader.{Reading, answerTo, readAck}
 use Rattle.frontend.specs.Guest.{idle, acked, incoming, owes, Good as GoodGuest}
 use Rattle.frontend.specs.Calls.{After, unreadRequests, unreadAcks, answeredWith, judged, seen, doneWith, concluded, readOn, eventOf}
-use Rattle.frontend.specs.declared.Guest.{Guest}
+use Rattle.frontend.specs.Guest.{GuestState}
 use Rattle.guest_messages.proofs.Theorems.{reader-accepts-ack}
 use Rattle.ends.specs.Ends.{Ends, afterGuest, guestEvent, answerOf, Agree}
 use Rattle.ends.proofs.Points.{Answered}
@@ -39,7 +39,7 @@ ack-read s m =
     reader-accepts-ack s t (sizeIn m) p ∙ ap (λ (st : ℕ). value (answerTo (requestOf t) st)) (sym (ack-carries-status s t (sizeIn m) p))
 
 -- an ack read whole and accepted
-concluded-ack : (g : Guest) (page : List ℕ) (n : ℕ) (r : Reading)
+concluded-ack : (g : GuestState) (page : List ℕ) (n : ℕ) (r : Reading)
     → seen (typeIn (g .request)) (receivedFrom responsesAt page (incoming g) n .message) ≡ judged (value r)
     → readOn g page n
     ≡ answeredWith (acked r) (doneWith g (receivedFrom responsesAt page (incoming g) n .message) idle (receivedFrom responsesAt page (incoming g) n .cons)) page
@@ -51,7 +51,7 @@ module _ (s : Settings) (m : List ℕ) (e : Ends) (long : length m ≡ messageLe
   abbrev ack : List ℕ
   ack = ackIn (carriedMessage s m [])
 
-  abbrev g : Guest
+  abbrev g : GuestState
   g = e .guest
 
   abbrev read : Message

@@ -11,20 +11,20 @@ use lib.Dec.{ltb}
 use borrow.Author.Tests.{eq-eqb, le-leb, lt-leb, le-ltb, ltb-true, ltb-false}
 use Rattle.messages.specs.Wire.{headerSize, typeIn, sizeIn}
 use Rattle.messages.specs.Requests.{maxAck, ackIn, carriedMessage}
-use Rattle.messages.specs.declared.Carried.{Carried}
+use Rattle.messages.specs.Requests.{Carried}
 use Rattle.messages.proofs.Theorems.{ack-fits}
 use Rattle.ring.specs.Page.{pageSize, areaSize, reqConsAt, rspProdAt, requestsAt, responsesAt, countIn, less, advanced, octetsIn, put}
 use Rattle.ring.specs.Reading.{messageLength, whole, received, receivedFrom}
 use Rattle.ring.specs.Writing.{fitting, sentOctets}
 use Rattle.ring.specs.Streams.{beginsWhole, presentPart, Holding}
-use Rattle.ring.specs.declared.Outgoing.{Outgoing}
+use Rattle.ring.specs.Writing.{Outgoing}
 use Rattle.ring.proofs.Places.{put-length}
 use Rattle.ring.proofs.Untouched.{counted-length, counted-octets, counted-cons, counted-prod, put-stands}
 use Rattle.ring.proofs.Sides.{less-advanced}
 use Rattle.ring.proofs.Holdings.{size-front, part-whole, part-all, holding-whole, holding-received}
 use Rattle.backend.specs.Events.{After, waiting, unread, unreadAcks, answeredWith, owes, responded, readIn, carriedIn, carriedOver, afterRead, proceeded, eventOf}
 use Rattle.backend.specs.Rules.{Accepted, room, afterReading, BecomesWhole}
-use Rattle.backend.specs.declared.Interface.{Interface}
+use Rattle.backend.specs.States.{HostState}
 use Rattle.backend.proofs.Stages.{carried-held}
 use Rattle.backend.proofs.Theorems.{carried-out}
 use Rattle.ends.specs.Ends.{Ends, hostTurn}
@@ -59,14 +59,14 @@ module _ (m : List ℕ) (long : length m ≡ messageLength m) where
           rw same (part-whole m all-whole ∙ take-all (messageLength m) m (omega arith))
 
 -- an event at which the message does not become whole
-event-waits : (s : Interface) (page : List ℕ) → Accepted s page → owes s ≡ false → whole (afterReading s page .incoming .message) ≡ false
+event-waits : (s : HostState) (page : List ℕ) → Accepted s page → owes s ≡ false → whole (afterReading s page .incoming .message) ≡ false
     → eventOf s page ≡ answeredWith waiting (afterReading s page) page
 unfolding eventOf proceeded afterRead
 event-waits s page ok idle waits =
     rw (eq-eqb _ _ (ok .size), le-leb _ _ (ok .requests), le-leb _ _ (ok .responses), idle, waits) refl
 
 -- a message carried out, and its whole ack written
-record Replied (t : Interface) (c : Carried) (a : After) : Type 0 where
+record Replied (t : HostState) (c : Carried) (a : After) : Type 0 where
   settings : a .state .settings ≡ c .settings
   no-ack : owes (a .state) ≡ false
   nothing-read : a .state .incoming .message .taken ≡ 0
@@ -77,7 +77,7 @@ record Replied (t : Interface) (c : Carried) (a : After) : Type 0 where
   rsp-prod : countIn (a .page) rspProdAt ≡ a .state .outgoing .prod
   octets : octetsIn responsesAt (a .page) (t .outgoing .prod) (length (ackIn c)) ≡ ackIn c
 
-replies : (t : Interface) (page : List ℕ) (space : ℕ) → maxAck ≤ space → length page ≡ pageSize → t .incoming .cons < 2 ^ 32
+replies : (t : HostState) (page : List ℕ) (space : ℕ) → maxAck ≤ space → length page ≡ pageSize → t .incoming .cons < 2 ^ 32
     → Replied t (carriedIn t) (responded (carriedOver t) page space)
 unfolding responded carriedOver
 replies t page space enough size small =
@@ -113,10 +113,10 @@ replies t page space enough size small =
 
 module _ (m : List ℕ) (r n : ℕ) (e : Ends) (sent : Sent m r n e) (long : length m ≡ messageLength m) where
   module _ (first : r < length m) (more : r ≤ n) (within : n ≤ length m) (few : n - r ≤ areaSize) where
-    abbrev h : Interface
+    abbrev h : HostState
     h = e .host
 
-    abbrev t : Interface
+    abbrev t : HostState
     t = afterReading h (e .page)
 
     -- what it finds on the page

@@ -19,7 +19,7 @@ use Rattle.toeplitz.specs.Hash.{keyLength}
 use Rattle.messages.specs.Wire.{headerSize, fieldSize, message, sizeIn, ackType, getFlagsType, setFlagsType, setKeyType, setMappingType, allFlags, success}
 use Rattle.messages.specs.Settings.{isListed}
 use Rattle.messages.specs.Requests.{Request, requestOf, statusOf, carriesFlags, statusPayload, flagsPayload, ackPayload, ackIn, carriedOut}
-use Rattle.messages.specs.declared.Settings.{Settings}
+use Rattle.messages.specs.Settings.{Settings}
 use Rattle.messages.proofs.Parts.{message-is, length-message, size-header}
 use Rattle.messages.proofs.AckOctets.{payload-short}
 use Rattle.messages.proofs.Theorems.{ack-is}

@@ -10,11 +10,11 @@ use Rattle.ring.specs.Page.{pageSize, reqConsAt, reqProdAt, rspConsAt, rspProdA
 use Rattle.ring.specs.Streams.{Holding}
 use Rattle.backend.specs.Events.{owes as hostOwes}
 use Rattle.frontend.specs.Guest.{maxAckPayload, outstanding}
-use Rattle.frontend.specs.declared.Guest.{Guest}
+use Rattle.frontend.specs.Guest.{GuestState}
 use Rattle.ends.specs.Ends.{Ends}
 
 -- the guest has written n octets of the request m, and read nothing of an ack
-pub record Asking (m : List ℕ) (n : ℕ) (g : Guest) : Type 0 where
+pub record Asking (m : List ℕ) (n : ℕ) (g : GuestState) : Type 0 where
   pub phase : g .phase ≡ outstanding
   pub rest : List ℕ
   pub request : g .request ≡ m ++ rest

@@ -14,7 +14,7 @@ use Rattle.octets.proofs.Numbers.{number-same}
 use Rattle.octets.proofs.Outcomes.{value-same}
 use Rattle.messages.specs.Settings.{maxQueues}
 use Rattle.messages.specs.Requests.{carriedMessage}
-use Rattle.messages.specs.declared.Settings.{Settings}
+use Rattle.messages.specs.Settings.{Settings}
 use Rattle.ring.specs.Page.{pageSize, areaSize, reqConsAt, rspProdAt, countIn}
 use Rattle.ring.specs.Reading.{messageLength}
 use Rattle.backend.specs.Streams.{settingsAfter}

@@ -18,7 +18,7 @@ use Rattle.ring.proofs.Untouched.{put-stands, guest-counted-length, guest-count
 use Rattle.frontend.specs.Guest.{idle, outstanding, failed, outgoing, owes, number, pending}
 use Rattle.frontend.specs.Calls.{After, unreadRequests, unreadAcks, Found, found, wroteOn, begun, startedBy, readied, startBy, startOf}
 use Rattle.frontend.specs.Calls.{readOn, eventBy, eventOf}
-use Rattle.frontend.specs.declared.Guest.{Guest}
+use Rattle.frontend.specs.Guest.{GuestState}
 use Rattle.ends.specs.Ends.{Ends, Agree, afterGuest, guestEvent, started}
 use Rattle.ends.proofs.Points.{Ready, Sent}
 
@@ -26,7 +26,7 @@ use Rattle.ends.proofs.Points.{Ready, Sent}
 abbrev pub allRoom : ℕ → Found
 allRoom n = record { room = areaSize; unread = n }
 
-module _ (g : Guest) (page : List ℕ) where
+module _ (g : GuestState) (page : List ℕ) where
   -- what a guest finds whose request octets are all read
   pub finds : (n : ℕ) → length page ≡ pageSize → unreadRequests g page ≡ 0 → unreadAcks g page ≡ n → n ≤ areaSize
       → eqb (g .phase) failed ≡ false → found g page ≡ value (allRoom n)
@@ -56,7 +56,7 @@ part-octets k n m rest octets e h =
 
 -- octets of the request written, up to the n′-th, into the whole area
 module _ (m : List ℕ) (n n′ : ℕ) (e : Ends) (ready : Ready m n e) (within : n ≤ length m) (reach : n′ ≡ min (n + areaSize) (length m)) where
-  abbrev g : Guest
+  abbrev g : GuestState
   g = e .guest
 
   -- how many these are, and which

@@ -9,22 +9,22 @@ use lib.Dec.{leb}
 use Rattle.octets.specs.Outcome.{Outcome, value}
 use Rattle.messages.specs.Wire.{typeIn}
 use Rattle.messages.specs.Requests.{requestOf, ackStatus, carriedMessage}
-use Rattle.messages.specs.declared.Settings.{Settings}
+use Rattle.messages.specs.Settings.{Settings}
 use Rattle.ring.specs.Page.{pageSize, areaSize, reqConsAt, rspProdAt, countIn}
 use Rattle.backend.specs.States.{interfaceAtSetup, Good as GoodHost}
 use Rattle.backend.specs.Events.{eventOf as hostEventOf, owes as hostOwes}
 use Rattle.backend.specs.Streams.{settingsAfter}
-use Rattle.backend.specs.declared.Interface.{Interface}
+use Rattle.backend.specs.States.{HostState}
 use Rattle.guest_messages.specs.Reader.{Reading, answerTo}
 use Rattle.frontend.specs.Guest.{idle, guestAtSetup, Told, number, acked, pending, Good as GoodGuest}
 use Rattle.frontend.specs.Calls.{After, startOf, eventOf}
 use Rattle.frontend.specs.Rules.{Asked}
-use Rattle.frontend.specs.declared.Guest.{Guest}
+use Rattle.frontend.specs.Guest.{GuestState}
 
 -- both ends and the page between them
 pub record Ends : Type 0 where
-  pub guest : Guest
-  pub host : Interface
+  pub guest : GuestState
+  pub host : HostState
   pub page : List ℕ
 
 -- fresh from setup, with q queues, on a zeroed page

@@ -13,16 +13,15 @@ use Rattle.octets.specs.Outcome.{value, refused}
 use Rattle.messages.specs.Wire.{headerSize, fieldSize, typeIn, sizeIn}
 use Rattle.ring.specs.Page.{responsesAt, countedByGuest}
 use Rattle.ring.specs.Reading.{whole, receivedFrom}
-use Rattle.ring.specs.declared.Message.{Message}
-use Rattle.ring.specs.declared.Incoming.{Incoming}
+use Rattle.ring.specs.Reading.{Message}
+use Rattle.ring.specs.Reading.{Incoming}
 use Rattle.guest_messages.specs.Refusals.{notAnAck}
 use Rattle.guest_messages.specs.Reader.{Reading, readAck}
 use Rattle.frontend.specs.Guest.{maxAckPayload, idle, failed, incoming, withIncoming, owes}
 use Rattle.frontend.specs.Guest.{Good, acked, toldOf}
 use Rattle.frontend.specs.Calls.{After, Found, found, refusedWith, wroteOn}
 use Rattle.frontend.specs.Calls.{sizeWrong, messageOctets, Seen, part, judged, seen, doneWith, concluded, readOn, eventBy, eventOf, left}
-use Rattle.frontend.specs.Inner.{withPhase}
-use Rattle.frontend.specs.declared.Guest.{Guest}
+use Rattle.frontend.specs.Guest.{GuestState}
 use Rattle.frontend.specs.declared.Refusal.the-variants.{AckRefused}
 use Rattle.frontend.specs.declared.GuestAnswer.{GuestAnswer}
 use Rattle.frontend.specs.declared.GuestAnswer.the-variants.{Pending, Refused}
@@ -70,38 +69,37 @@ module _ (t : ℕ) (m : Message) (right : sizeWrong m ≡ false) where
   unfolding seen
   sees-whole w = rw (right, w) refl
 
--- octets of the ack read by a guest with the reading side j, whose request has type t, so that the reading side is i and s is seen
-pub reads-on : (g : Guest) (page : List ℕ) (n t : ℕ) (i j : Incoming) (s : Seen) → typeIn (g .request) ≡ t → incoming g ≡ j
-    → i ≡ receivedFrom responsesAt page j n → s ≡ seen t (i .message) → concluded s g i page ≡ readOn g page n
+-- octets of the ack read by a guest whose request has type t, so that the reading side is i and s is seen
+pub reads-on : (g : GuestState) (page : List ℕ) (n t : ℕ) (i : Incoming) (s : Seen) → typeIn (g .request) ≡ t
+    → i ≡ receivedFrom responsesAt page (incoming g) n → s ≡ seen t (i .message) → concluded s g i page ≡ readOn g page n
 unfolding readOn
-reads-on g page n t i j s type side read sight = rw (sight, read, ← side, ← type) refl
+reads-on g page n t i s type read sight = rw (sight, read, ← type) refl
 
--- what is left once octets have been read
-module _ (g : Guest) (i : Incoming) (page : List ℕ) where
-  -- by the counts that are written: the ack is not whole, or it is accepted
-  module _ (octets : List ℕ) (prod : ℕ) (own : g .«req_prod» ≡ prod) (counts : octets ≡ countedByGuest page (i .cons) prod) where
-    pub concludes-part : (phase : ℕ) → g .phase ≡ phase → left Pending (withPhase (withIncoming g i) phase) octets ≡ concluded part g i page
+-- what is left once octets have been read, by the counts that are written: the ack is not whole, or it is accepted; or the ack
+-- is refused
+module _ (g t : GuestState) (i : Incoming) (page : List ℕ) where
+  module _ (octets : List ℕ) (counts : octets ≡ countedByGuest page (i .cons) (g .«req_prod»)) where
+    pub concludes-part : t ≡ withIncoming g i → left Pending t octets ≡ concluded part g i page
     unfolding concluded
-    concludes-part phase e = rw (counts, ← own, ← e) refl
+    concludes-part e = rw (counts, e) refl
 
-    pub concludes-accepted : (r : Reading) (a : GuestAnswer) → toldOf a ≡ acked r
-        → left a (doneWith g (i .message) idle (i .cons)) octets ≡ concluded (judged (value r)) g i page
+    pub concludes-accepted : (r : Reading) (a : GuestAnswer) → toldOf a ≡ acked r → t ≡ doneWith g (i .message) idle (i .cons)
+        → left a t octets ≡ concluded (judged (value r)) g i page
     unfolding concluded
-    concludes-accepted r a told = rw (counts, ← own, told) refl
+    concludes-accepted r a told e = rw (counts, told, e) refl
 
-  -- the ack is refused, and the guest had the reading side j
-  pub concludes-refused : (j : Incoming) → incoming g ≡ j
-      → left (Refused AckRefused) (doneWith g (i .message) failed (j .cons)) page ≡ concluded (judged (refused notAnAck)) g i page
+  pub concludes-refused : t ≡ doneWith g (i .message) failed (g .«rsp_cons»)
+      → left (Refused AckRefused) t page ≡ concluded (judged (refused notAnAck)) g i page
   unfolding concluded
-  concludes-refused j side = rw (← side) refl
+  concludes-refused e = rw e refl
 
 -- an event that is refused
-pub event-refused : (g : Guest) (page : List ℕ) (k : ℕ) → refused k ≡ found g page → refusedWith k g page ≡ eventOf g page
+pub event-refused : (g : GuestState) (page : List ℕ) (k : ℕ) → refused k ≡ found g page → refusedWith k g page ≡ eventOf g page
 unfolding eventBy
 event-refused g page k e = rw (← e) refl
 
 -- an event that finds f
-module _ (g : Guest) (page : List ℕ) (f : Found) (finds : value f ≡ found g page) where
+module _ (g : GuestState) (page : List ℕ) (f : Found) (finds : value f ≡ found g page) where
   -- without a request
   pub event-idle : (octets : List ℕ) → g .phase ≡ idle → octets ≡ countedByGuest page (g .«rsp_cons») (g .«req_prod»)
       → left Pending g octets ≡ eventOf g page
@@ -119,7 +117,7 @@ module _ (g : Guest) (page : List ℕ) (f : Found) (finds : value f ≡ found g 
     event-reading done = rw (← finds, ne-eqb _ _ busy, done) refl
 
 -- the state that an event leaves is good
-pub event-good : (g h : Guest) (page octets : List ℕ) (r : GuestAnswer) → Good g → left r h octets ≡ eventOf g page → Good h
+pub event-good : (g h : GuestState) (page octets : List ℕ) (r : GuestAnswer) → Good g → left r h octets ≡ eventOf g page → Good h
 event-good g h page octets r good e =
     let same : h ≡ eventOf g page .state = ap (λ (a : After). a .state) e in
     rw same (good-event g page good)

@@ -18,7 +18,7 @@ use Rattle.messages.specs.Settings.{isListed}
 use Rattle.messages.proofs.Powers.{listed-parts}
 use Rattle.ring.specs.Page.{responsesAt, octetsIn}
 use Rattle.ring.specs.Reading.{whole, receivedFrom}
-use Rattle.ring.specs.declared.Incoming.{Incoming}
+use Rattle.ring.specs.Reading.{Incoming}
 use Rattle.ring.proofs.Sides.{grown, none-waits, good-received, good-sent}
 use Rattle.guest_messages.specs.Reader.{Reading}
 use Rattle.guest_messages.specs.Writer.{fieldsOf, getFlagsMessage, setFlagsMessage, setKeyMessage, setMappingMessage}
@@ -26,7 +26,7 @@ use Rattle.frontend.specs.Guest.{idle, failed, maxRequest, maxAckPayload
 use Rattle.frontend.specs.Calls.{After, Found, found, begun, wroteOn, startedBy, readied, startBy, startOf, doneWith}
 use Rattle.frontend.specs.Calls.{Seen, part, judged, sizeWrong, seen, concluded, readOn, eventBy, eventOf, left}
 use Rattle.frontend.specs.Rules.{Asked, getsFlags, setsFlags, setsKey, setsMapping}
-use Rattle.frontend.specs.declared.Guest.{Guest}
+use Rattle.frontend.specs.Guest.{GuestState}
 use Rattle.frontend.specs.declared.GuestAnswer.{GuestAnswer}
 use Rattle.guest_messages.proofs.Theorems.{message-lengths}
 
@@ -70,7 +70,7 @@ good-at-setup =
     }
 
 -- octets of the request written on
-good-wrote : (g : Guest) (page : List ℕ) (room : ℕ) → Good g → Good (wroteOn g page room .state)
+good-wrote : (g : GuestState) (page : List ℕ) (room : ℕ) → Good g → Good (wroteOn g page room .state)
 unfolding wroteOn
 good-wrote g page room good =
     record {
@@ -82,7 +82,7 @@ good-wrote g page room good =
     }
 
 -- a request begun by a guest without one
-pub good-begun : (g : Guest) (m : List ℕ) → length m ≤ maxRequest → g .phase ≡ idle → Good g → Good (begun g m)
+pub good-begun : (g : GuestState) (m : List ℕ) → length m ≤ maxRequest → g .phase ≡ idle → Good g → Good (begun g m)
 good-begun g m short rest good =
     let size : length (m ++ drop (length m) (g .request)) ≡ maxRequest =
     length-append m (drop (length m) (g .request)) ∙ omega (arith, length-drop (length m) (g .request), good .request .size) in
@@ -94,13 +94,13 @@ good-begun g m short rest good =
       in-turn = λ h. good .at-rest rest;
     }
 
-good-started-by : (o : Outcome (List ℕ)) (g : Guest) (page : List ℕ) (room : ℕ)
+good-started-by : (o : Outcome (List ℕ)) (g : GuestState) (page : List ℕ) (room : ℕ)
     → Fits o → g .phase ≡ idle → Good g → Good (startedBy o g page room .state)
 unfolding startedBy
 good-started-by (value m) g page room short rest good = good-wrote (begun g m) page room (good-begun g m (short m refl) rest good)
 good-started-by (refused k) g page room short rest good = good
 
-good-start-by : (f : Outcome Found) (o : Outcome (List ℕ)) (g : Guest) (page : List ℕ)
+good-start-by : (f : Outcome Found) (o : Outcome (List ℕ)) (g : GuestState) (page : List ℕ)
     → Fits o → Good g → Good (startBy (readied f g) o g page .state)
 unfolding readied startBy
 good-start-by (value f) o g page short good =
@@ -108,7 +108,7 @@ good-start-by (value f) o g page short good =
     (λ rest. good-started-by o g page (f .room) short (eqb-true _ _ rest) good) (λ busy. good)
 good-start-by (refused k) o g page short good = good
 
-pub good-started : (o : Outcome (List ℕ)) (g : Guest) (page : List ℕ) → Fits o → Good g → Good (startOf o g page .state)
+pub good-started : (o : Outcome (List ℕ)) (g : GuestState) (page : List ℕ) → Fits o → Good g → Good (startOf o g page .state)
 good-started o g page short good = good-start-by (found g page) o g page short good
 
 -- of an ack a part is there only where it is not whole
@@ -123,7 +123,7 @@ part-only false true o p e = absurd (judged-all p e)
 part-only false false o p e = refl
 
 -- octets of the ack read: part of it, or all, which ends it
-module _ (g : Guest) (page : List ℕ) (n : ℕ) (good : Good g) (busy : g .phase ≡ idle → ⊥) (none : g .length ≤ g .written) where
+module _ (g : GuestState) (page : List ℕ) (n : ℕ) (good : Good g) (busy : g .phase ≡ idle → ⊥) (none : g .length ≤ g .written) where
   abbrev read : Incoming
   read = receivedFrom responsesAt page (incoming g) n
 
@@ -172,7 +172,7 @@ module _ (g : Guest) (page : List ℕ) (n : ℕ) (good : Good g) (busy : g .phas
   unfolding readOn
   good-read = good-concluded (seen (typeIn (g .request)) (read .message)) (part-waits (typeIn (g .request)))
 
-good-event-by : (f : Outcome Found) (g : Guest) (page : List ℕ) → Good g → Good (eventBy f g page .state)
+good-event-by : (f : Outcome Found) (g : GuestState) (page : List ℕ) → Good g → Good (eventBy f g page .state)
 unfolding eventBy
 good-event-by (value f) g page good =
     by-test (λ (a : After). Good (a .state)) (eqb (g .phase) idle) _ _ (λ rest. good)
@@ -180,11 +180,11 @@ good-event-by (value f) g page good =
     (λ none. good-read g page (f .unread) good (eqb-false _ _ busy) (ltb-false _ _ none)))
 good-event-by (refused k) g page good = good
 
-pub good-event : (g : Guest) (page : List ℕ) → Good g → Good (eventOf g page .state)
+pub good-event : (g : GuestState) (page : List ℕ) → Good g → Good (eventOf g page .state)
 good-event g page good = good-event-by (found g page) g page good
 
 -- what a start in place leaves is what the definition says, and good
-pub starts-good : (o : Outcome (List ℕ)) (g t : Guest) (page octets : List ℕ) (r : GuestAnswer)
+pub starts-good : (o : Outcome (List ℕ)) (g t : GuestState) (page octets : List ℕ) (r : GuestAnswer)
     → Fits o → Good g → left r t octets ≡ startOf o g page
     → (left r t octets ≡ startOf o g page) × Good t
 starts-good o g t page octets r short good e =

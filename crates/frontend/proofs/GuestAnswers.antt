@@ -24,7 +24,7 @@ use Rattle.frontend.specs.Calls.{After, Found, found, unreadRequests, un
 use Rattle.frontend.specs.Calls.{readied, startOf, Seen, part, judged, concluded, readOn, eventBy, eventOf}
 use Rattle.frontend.specs.Rules.{Asked, getsFlags, setsFlags, setsKey, setsMapping, Accepted, room, afterReading, Awaits, ackSeen}
 use Rattle.frontend.specs.Rules.{Pends, no-request, last-written, ack-in-part, RefusesAck, before, now}
-use Rattle.frontend.specs.declared.Guest.{Guest}
+use Rattle.frontend.specs.Guest.{GuestState}
 use Rattle.frontend.specs.declared.GuestAnswer.{GuestAnswer}
 use Rattle.frontend.specs.declared.GuestAnswer.the-variants.{Pending, RequestOwed, AckedStatus, AckedFlags, Refused}
 use Rattle.frontend.specs.declared.Refusal.{Refusal}
@@ -79,7 +79,7 @@ acked-no-number r k e =
     omega arith
 
 -- octets written: 2 where more are owed, else 0
-wrote-answer : (g : Guest) (page : List ℕ) (n : ℕ) (P : Told → Type 0)
+wrote-answer : (g : GuestState) (page : List ℕ) (n : ℕ) (P : Told → Type 0)
     → (owes (wroteOn g page n .state) ≡ true → P (number requestOwed))
     → (owes (wroteOn g page n .state) ≡ false → P (number pending))
     → P (wroteOn g page n .answer)
@@ -90,29 +90,29 @@ wrote-answer g page n P more none = by (owes (wroteOn g page n .state)) refl
     by true e = more e
     by false e = none e
 
-pub wrote-low : (g : Guest) (page : List ℕ) (n k : ℕ) → wroteOn g page n .answer ≡ number k → k ≤ requestOwed
+pub wrote-low : (g : GuestState) (page : List ℕ) (n k : ℕ) → wroteOn g page n .answer ≡ number k → k ≤ requestOwed
 wrote-low g page n k =
     wrote-answer g page n (λ (t : Told). t ≡ number k → k ≤ requestOwed) (λ _ e. let x = number-same _ _ e in omega arith)
     (λ _ e. let x = number-same _ _ e in omega arith)
 
-wrote-more : (g : Guest) (page : List ℕ) (n : ℕ) → wroteOn g page n .answer ≡ number requestOwed → owes (wroteOn g page n .state) ≡ true
+wrote-more : (g : GuestState) (page : List ℕ) (n : ℕ) → wroteOn g page n .answer ≡ number requestOwed → owes (wroteOn g page n .state) ≡ true
 wrote-more g page n =
     wrote-answer g page n (λ (t : Told). t ≡ number requestOwed → owes (wroteOn g page n .state) ≡ true) (λ more e. more)
     (λ none e. absurd (let x = number-same _ _ e in omega arith))
 
-wrote-none : (g : Guest) (page : List ℕ) (n : ℕ) → wroteOn g page n .answer ≡ number pending → owes (wroteOn g page n .state) ≡ false
+wrote-none : (g : GuestState) (page : List ℕ) (n : ℕ) → wroteOn g page n .answer ≡ number pending → owes (wroteOn g page n .state) ≡ false
 wrote-none g page n =
     wrote-answer g page n (λ (t : Told). t ≡ number pending → owes (wroteOn g page n .state) ≡ false)
     (λ more e. absurd (let x = number-same _ _ e in omega arith)) (λ none e. none)
 
-pub wrote-no-ack : (g : Guest) (page : List ℕ) (n : ℕ) (r : Reading) → wroteOn g page n .answer ≡ acked r → ⊥
+pub wrote-no-ack : (g : GuestState) (page : List ℕ) (n : ℕ) (r : Reading) → wroteOn g page n .answer ≡ acked r → ⊥
 wrote-no-ack g page n r =
     wrote-answer g page n (λ (t : Told). t ≡ acked r → ⊥) (λ _ e. acked-no-number r _ (sym e)) (λ _ e. acked-no-number r _ (sym e))
 
-wrote-owed : (g : Guest) (page : List ℕ) (n : ℕ) → owes (wroteOn g page n .state) ≡ true → wroteOn g page n .answer ≡ number requestOwed
+wrote-owed : (g : GuestState) (page : List ℕ) (n : ℕ) → owes (wroteOn g page n .state) ≡ true → wroteOn g page n .answer ≡ number requestOwed
 wrote-owed g page n y = wrote-answer g page n (λ (t : Told). t ≡ number requestOwed) (λ more. refl) (λ none. absurd (false≢true (sym none ∙ y)))
 
-wrote-pending : (g : Guest) (page : List ℕ) (n : ℕ) → owes (wroteOn g page n .state) ≡ false → wroteOn g page n .answer ≡ number pending
+wrote-pending : (g : GuestState) (page : List ℕ) (n : ℕ) → owes (wroteOn g page n .state) ≡ false → wroteOn g page n .answer ≡ number pending
 wrote-pending g page n y = wrote-answer g page n (λ (t : Told). t ≡ number pending) (λ more. absurd (false≢true (sym y ∙ more))) (λ none. refl)
 
 -- laws on ↔: one after the other, and beside what is known
@@ -141,7 +141,7 @@ asked-others request asked k key val e = by (asked-refused request asked k e)
 
 -- refusals 3, 4 and 5 for every call, by the guest's own counts, each exactly where its condition is the first that holds;
 -- then 12, exactly where an ack was refused before
-record Finds (g : Guest) (page : List ℕ) (f : Outcome Found) : Type 0 where
+record Finds (g : GuestState) (page : List ℕ) (f : Outcome Found) : Type 0 where
   wrong-page : (f ≡ refused pageWrong) ↔ (length page ≡ pageSize → ⊥)
   wrong-requests : (f ≡ refused requestsWrong) ↔ ((length page ≡ pageSize) × (areaSize < unreadRequests g page))
   wrong-responses : (f ≡ refused responsesWrong)
@@ -151,7 +151,7 @@ record Finds (g : Guest) (page : List ℕ) (f : Outcome Found) : Type 0 where
 refuses-other : (j k : ℕ) → (j ≡ k → ⊥) → _≡_ {A = Outcome Found} (refused j) (refused k) → ⊥
 refuses-other j k differ e = differ (refused-same j k e)
 
-module _ (g : Guest) (page : List ℕ) where
+module _ (g : GuestState) (page : List ℕ) where
   finds : Finds g page (found g page)
   finds =
       found-ways g page (Finds g page)
@@ -228,7 +228,7 @@ seen-number (judged (refused j)) k twelve e =
     let same : j ≡ notAnAck = twelve j refl in
     as-refused (sym (number-same _ _ e) ∙ same) (ap (λ (n : ℕ). judged (refused n)) same)
 
-module _ (g : Guest) (page : List ℕ) where
+module _ (g : GuestState) (page : List ℕ) where
   concluded-told : (s : Seen) → concluded s g (afterReading g page) page .answer ≡ seen-told s
   unfolding concluded seen-told
   concluded-told part = refl
@@ -390,13 +390,13 @@ module _ (g : Guest) (page : List ℕ) where
 -- ---- a start
 
 -- once the request is begun, or refused by the writer
-started-refuses : (request : Outcome (List ℕ)) (g : Guest) (page : List ℕ) (n k : ℕ) → requestOwed < k → (request ≡ refused k → ⊥)
+started-refuses : (request : Outcome (List ℕ)) (g : GuestState) (page : List ℕ) (n k : ℕ) → requestOwed < k → (request ≡ refused k → ⊥)
     → startedBy request g page n .answer ≡ number k → ⊥
 unfolding startedBy
 started-refuses (value m) g page n k high never e = let x = wrote-low (begun g m) page n k e in omega arith
 started-refuses (refused j) g page n k high never e = never (ap refused (number-same j k e))
 
-started-tells : (request : Outcome (List ℕ)) (g : Guest) (page : List ℕ) (n : ℕ) (m : List ℕ) → request ≡ value m
+started-tells : (request : Outcome (List ℕ)) (g : GuestState) (page : List ℕ) (n : ℕ) (m : List ℕ) → request ≡ value m
     → ((startedBy request g page n .answer ≡ number requestOwed) ↔ (owes (startedBy request g page n .state) ≡ true))
     × ((startedBy request g page n .answer ≡ number pending) ↔ (owes (startedBy request g page n .state) ≡ false))
 unfolding startedBy
@@ -405,13 +405,13 @@ started-tells (value l) g page n m e =
     ((wrote-more t page n, wrote-owed t page n), (wrote-none t page n, wrote-pending t page n))
 started-tells (refused j) g page n m e = absurd (value-not-refused m j (sym e))
 
-started-refused : (request : Outcome (List ℕ)) (g : Guest) (page : List ℕ) (n k : ℕ) → request ≡ refused k
+started-refused : (request : Outcome (List ℕ)) (g : GuestState) (page : List ℕ) (n k : ℕ) → request ≡ refused k
     → startedBy request g page n .answer ≡ number k
 unfolding startedBy
 started-refused (value m) g page n k e = absurd (value-not-refused m k e)
 started-refused (refused j) g page n k e = ap number (refused-same j k e)
 
-module _ (g : Guest) (page : List ℕ) (request : Outcome (List ℕ)) where
+module _ (g : GuestState) (page : List ℕ) (request : Outcome (List ℕ)) where
   start-of-refused : (k : ℕ) → found g page ≡ refused k → startOf request g page ≡ refusedWith k g page
   unfolding startBy readied
   start-of-refused k e = ap (λ (f : Outcome Found). startBy (readied f g) request g page) e

@@ -15,7 +15,7 @@ use Rattle.ring.specs.Page.{pageSize, areaSize, reqConsAt, reqProdAt, rspConsAt
 use Rattle.ring.specs.Page.{less, countedByGuest, octetsIn, put}
 use Rattle.ring.specs.Reading.{receivedFrom}
 use Rattle.ring.specs.Writing.{fitting, sentOctets, sent}
-use Rattle.ring.specs.declared.Incoming.{Incoming}
+use Rattle.ring.specs.Reading.{Incoming}
 use Rattle.ring.proofs.Places.{octets-none, put-length}
 use Rattle.ring.proofs.Untouched.{guest-counted-beside, guest-counted-length, guest-counted-cons, guest-counted-prod, guest-counted-others}
 use Rattle.ring.proofs.Untouched.{guest-counted-octets, put-other, put-stands, octets-agree}
@@ -24,7 +24,7 @@ use Rattle.frontend.specs.Guest.{idle, outgoing, incoming, withOutgoing,
 use Rattle.frontend.specs.Calls.{After, Found, found, unreadRequests, answeredWith, begun, wroteOn, startedBy, readied}
 use Rattle.frontend.specs.Calls.{startBy, startOf, Seen, part, judged, concluded, readOn, eventBy, eventOf}
 use Rattle.frontend.specs.Rules.{Asked, Accepted, room, NoOwnCount, moved, RequestPlace, WritesNext, Alike}
-use Rattle.frontend.specs.declared.Guest.{Guest}
+use Rattle.frontend.specs.Guest.{GuestState}
 use Rattle.frontend.proofs.Goodness.{asked-fits, good-begun, good-started, good-event}
 use Rattle.frontend.proofs.Ways.{event-ways, read-ways, start-ways}
 use Rattle.frontend.proofs.GuestAnswers.{asked-refused}
@@ -32,19 +32,19 @@ use Rattle.frontend.proofs.GuestRules.{begins}
 
 -- ---- the page keeps its length
 
-wrote-length : (g : Guest) (page : List ℕ) (n : ℕ) → length (wroteOn g page n .page) ≡ length page
+wrote-length : (g : GuestState) (page : List ℕ) (n : ℕ) → length (wroteOn g page n .page) ≡ length page
 unfolding wroteOn
 wrote-length g page n =
     let o = outgoing g in
     let xs = sentOctets o (fitting o n) in
     guest-counted-length (put requestsAt page (o .prod) xs) _ _ ∙ put-length requestsAt xs page (o .prod)
 
-started-length : (request : Outcome (List ℕ)) (g : Guest) (page : List ℕ) (n : ℕ) → length (startedBy request g page n .page) ≡ length page
+started-length : (request : Outcome (List ℕ)) (g : GuestState) (page : List ℕ) (n : ℕ) → length (startedBy request g page n .page) ≡ length page
 unfolding startedBy
 started-length (value m) g page n = wrote-length (begun g m) page n
 started-length (refused k) g page n = refl
 
-module _ (g : Guest) (page : List ℕ) where
+module _ (g : GuestState) (page : List ℕ) where
   pub event-length-same : length (eventOf g page .page) ≡ length page
   event-length-same =
       event-ways g page (λ (a : After). length (a .page) ≡ length page) (λ w. refl) (λ s m. refl) (λ s r m. refl) (λ ok f. refl)
@@ -62,13 +62,13 @@ module _ (g : Guest) (page : List ℕ) where
 abbrev Back : After → Type 0
 Back a = (countIn (a .page) rspConsAt ≡ a .state .«rsp_cons») × (countIn (a .page) reqProdAt ≡ a .state .«req_prod»)
 
-back : (g : Guest) (page : List ℕ) → Good g → length page ≡ pageSize → Back (answeredWith (number pending) g page)
+back : (g : GuestState) (page : List ℕ) → Good g → length page ≡ pageSize → Back (answeredWith (number pending) g page)
 back g page good size =
     let c = g .«rsp_cons» in
     let p = g .«req_prod» in
     (guest-counted-cons page c p (omega arith) (good .ack .count), guest-counted-prod page c p (omega arith) (good .request .count))
 
-back-wrote : (g : Guest) (page : List ℕ) (n : ℕ) → Good (wroteOn g page n .state) → length page ≡ pageSize → Back (wroteOn g page n)
+back-wrote : (g : GuestState) (page : List ℕ) (n : ℕ) → Good (wroteOn g page n .state) → length page ≡ pageSize → Back (wroteOn g page n)
 unfolding wroteOn
 back-wrote g page n good size =
     let o = outgoing g in
@@ -80,7 +80,7 @@ back-wrote g page n good size =
 abbrev Returns : After → Type 0
 Returns a = Good (a .state) → toldNumber (a .answer) ≤ requestOwed → Back a
 
-started-returns : (request : Outcome (List ℕ)) (g : Guest) (page : List ℕ) (n : ℕ) → length page ≡ pageSize → Asked request
+started-returns : (request : Outcome (List ℕ)) (g : GuestState) (page : List ℕ) (n : ℕ) → length page ≡ pageSize → Asked request
     → Returns (startedBy request g page n)
 unfolding startedBy
 started-returns (value m) g page n size asked good low = back-wrote (begun g m) page n good size
@@ -90,7 +90,7 @@ started-returns (refused k) g page n size asked good low = absurd (by (asked-ref
     by (inl key) = omega arith
     by (inr val) = omega arith
 
-module _ (g : Guest) (page : List ℕ) (good : Good g) where
+module _ (g : GuestState) (page : List ℕ) (good : Good g) where
   -- every call answered 0, 1 or 2 writes both own counts back
   pub event-counts-written : toldNumber (eventOf g page .answer) ≤ requestOwed → Back (eventOf g page)
   event-counts-written =
@@ -112,10 +112,10 @@ module _ (g : Guest) (page : List ℕ) (good : Good g) where
 -- ---- only the request's octets and the own counts change
 
 -- what is left of an octet that is no own count and no place of an octet written
-abbrev Kept : Guest → List ℕ → ℕ → After → Type 0
+abbrev Kept : GuestState → List ℕ → ℕ → After → Type 0
 Kept g page i a = (RequestPlace g a i → ⊥) → getD (a .page) i 0 ≡ getD page i 0
 
-kept-wrote : (g t : Guest) (page : List ℕ) (n i : ℕ) → t .«req_prod» ≡ g .«req_prod» → Good t → NoOwnCount i → Kept g page i (wroteOn t page n)
+kept-wrote : (g t : GuestState) (page : List ℕ) (n i : ℕ) → t .«req_prod» ≡ g .«req_prod» → Good t → NoOwnCount i → Kept g page i (wroteOn t page n)
 unfolding wroteOn
 kept-wrote g t page n i same good own free =
     let o = outgoing t in
@@ -127,18 +127,18 @@ kept-wrote g t page n i same good own free =
     (λ j l e. free (j, omega arith, e ∙ ap (λ (c : ℕ). requestsAt + (c + j) % areaSize) same))
 
 -- octets written fit beside those that the host has not read
-abbrev InRoom : Guest → List ℕ → After → Type 0
+abbrev InRoom : GuestState → List ℕ → After → Type 0
 InRoom g page a = moved g a ≤ room g page
 
-in-room-wrote : (g t : Guest) (page : List ℕ) (n : ℕ) → t .«req_prod» ≡ g .«req_prod» → Good t
+in-room-wrote : (g t : GuestState) (page : List ℕ) (n : ℕ) → t .«req_prod» ≡ g .«req_prod» → Good t
     → less (wroteOn t page n .state .«req_prod») (g .«req_prod») ≤ n
 unfolding wroteOn
 in-room-wrote g t page n same good = omega (arith, same, good .request .count, good .request .short)
 
-none-moved : (g : Guest) → Good g → less (g .«req_prod») (g .«req_prod») ≡ 0
+none-moved : (g : GuestState) → Good g → less (g .«req_prod») (g .«req_prod») ≡ 0
 none-moved g good = omega (arith, good .request .count)
 
-module _ (g : Guest) (page : List ℕ) (good : Good g) where
+module _ (g : GuestState) (page : List ℕ) (good : Good g) where
   module _ (i : ℕ) (own : NoOwnCount i) where
     pub event-elsewhere-same : (RequestPlace g (eventOf g page) i → ⊥) → getD (eventOf g page .page) i 0 ≡ getD page i 0
     event-elsewhere-same =
@@ -183,7 +183,7 @@ module _ (g : Guest) (page : List ℕ) (good : Good g) where
 
 -- ---- the octets written are the request's next ones
 
-wrote-next : (g : Guest) (page : List ℕ) (n : ℕ) → Good g → length page ≡ pageSize → n ≤ areaSize → WritesNext g (wroteOn g page n)
+wrote-next : (g : GuestState) (page : List ℕ) (n : ℕ) → Good g → length page ≡ pageSize → n ≤ areaSize → WritesNext g (wroteOn g page n)
 unfolding wroteOn
 wrote-next g page n good size small =
     let o = outgoing g in
@@ -201,10 +201,10 @@ wrote-next g page n good size small =
     record { octets = rw count stand }
 
 -- where none is written there is none
-none-next : (g : Guest) (a : After) → moved g a ≡ 0 → WritesNext g a
+none-next : (g : GuestState) (a : After) → moved g a ≡ 0 → WritesNext g a
 none-next g a none = record { octets = rw none (octets-none requestsAt (a .page) (g .«req_prod»)) }
 
-module _ (g : Guest) (page : List ℕ) (good : Good g) where
+module _ (g : GuestState) (page : List ℕ) (good : Good g) where
   pub event-writes-next : WritesNext g (eventOf g page)
   event-writes-next =
       let none = none-moved g good in
@@ -223,7 +223,7 @@ module _ (g : Guest) (page : List ℕ) (good : Good g) where
 -- ---- what is not read
 
 -- pages that agree in what a call looks at
-module _ (g : Guest) (p q : List ℕ) (octets : (n c : ℕ) → octetsIn responsesAt p c n ≡ octetsIn responsesAt q c n) where
+module _ (g : GuestState) (p q : List ℕ) (octets : (n c : ℕ) → octetsIn responsesAt p c n ≡ octetsIn responsesAt q c n) where
   alike-test : (t : Bool) (a b x y : After) → Alike a x → Alike b y → Alike (cond t a b) (cond t x y)
   alike-test true a b x y l r = l
   alike-test false a b x y l r = r
@@ -232,7 +232,7 @@ module _ (g : Guest) (p q : List ℕ) (octets : (n c : ℕ) → octetsIn respons
   unfolding found
   found-alike size cons prod = rw (size, cons, prod) refl
 
-  wrote-alike : (t : Guest) (n : ℕ) → Alike (wroteOn t p n) (wroteOn t q n)
+  wrote-alike : (t : GuestState) (n : ℕ) → Alike (wroteOn t p n) (wroteOn t q n)
   unfolding wroteOn
   wrote-alike t n = record { answer = refl; state = refl }
 
@@ -264,7 +264,7 @@ module _ (g : Guest) (p q : List ℕ) (octets : (n c : ℕ) → octetsIn respons
   start-by-alike (refused k) request = record { answer = refl; state = refl }
 
 -- of a page only its length, req_cons, rsp_prod and the response area are read
-module _ (g : Guest) (p q : List ℕ) (size : length p ≡ length q) (cons : countIn p reqConsAt ≡ countIn q reqConsAt)
+module _ (g : GuestState) (p q : List ℕ) (size : length p ≡ length q) (cons : countIn p reqConsAt ≡ countIn q reqConsAt)
     (prod : countIn p rspProdAt ≡ countIn q rspProdAt) (area : (o : ℕ) → o < areaSize → getD p (responsesAt + o) 0 ≡ getD q (responsesAt + o) 0) where
   pub event-only-these-read : Alike (eventOf g p) (eventOf g q)
   event-only-these-read =
@@ -277,7 +277,7 @@ module _ (g : Guest) (p q : List ℕ) (size : length p ≡ length q) (cons : cou
       rw (found-alike g p q octets size cons prod) (start-by-alike g p q octets (readied (found g q) g) request)
 
 -- what the page says of req_prod and rsp_cons makes no difference to answer or state
-module _ (g : Guest) (page : List ℕ) (c p : ℕ) where
+module _ (g : GuestState) (page : List ℕ) (c p : ℕ) where
   abbrev other : List ℕ
   other = countedByGuest page c p
 

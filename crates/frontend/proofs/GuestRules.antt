@@ -16,43 +16,43 @@ use Rattle.frontend.specs.Guest.{idle, outstanding, failed, owes, number
 use Rattle.frontend.specs.Calls.{After, unreadAcks, refusedWith, answeredWith, begun}
 use Rattle.frontend.specs.Calls.{wroteOn, startedBy, startOf, messageOctets, seen, concluded, readOn, eventOf}
 use Rattle.frontend.specs.Rules.{Accepted, room, afterReading, Reached, fromSetUp, fromStart, fromEvent}
-use Rattle.frontend.specs.declared.Guest.{Guest}
+use Rattle.frontend.specs.Guest.{GuestState}
 use Rattle.frontend.proofs.Goodness.{asked-fits, good-at-setup, good-started, good-event}
 use Rattle.frontend.proofs.Ways.{event-ways, read-ways, start-ways}
 use Rattle.frontend.proofs.GuestAnswers.{number-same, acked-same, acked-no-number, wrote-low, wrote-no-ack}
 
 -- every reached state is good
-pub reached-good : (g : Guest) → Reached g → Good g
+pub reached-good : (g : GuestState) → Reached g → Good g
 reached-good _ fromSetUp = good-at-setup
 reached-good _ (fromStart request g page asked r) = good-started request g page (asked-fits request asked) (reached-good g r)
 reached-good _ (fromEvent g page r) = good-event g page (reached-good g r)
 
-wrote-reads-none : (g : Guest) (page : List ℕ) (n : ℕ) → incoming (wroteOn g page n .state) ≡ incoming g
+wrote-reads-none : (g : GuestState) (page : List ℕ) (n : ℕ) → incoming (wroteOn g page n .state) ≡ incoming g
 unfolding wroteOn
 wrote-reads-none g page n = refl
 
-started-reads-none : (request : Outcome (List ℕ)) (g : Guest) (page : List ℕ) (n : ℕ) → incoming (startedBy request g page n .state) ≡ incoming g
+started-reads-none : (request : Outcome (List ℕ)) (g : GuestState) (page : List ℕ) (n : ℕ) → incoming (startedBy request g page n .state) ≡ incoming g
 unfolding startedBy
 started-reads-none (value m) g page n = wrote-reads-none (begun g m) page n
 started-reads-none (refused k) g page n = refl
 
 -- state and page as before
-abbrev Leaves : Guest → List ℕ → After → Type 0
+abbrev Leaves : GuestState → List ℕ → After → Type 0
 Leaves g page a = (a .state ≡ g) × (a .page ≡ page)
 
-started-leaves : (request : Outcome (List ℕ)) (g : Guest) (page : List ℕ) (n k : ℕ) → requestOwed < k
+started-leaves : (request : Outcome (List ℕ)) (g : GuestState) (page : List ℕ) (n k : ℕ) → requestOwed < k
     → startedBy request g page n .answer ≡ number k → Leaves g page (startedBy request g page n)
 unfolding startedBy
 started-leaves (value m) g page n k high e = let x = wrote-low (begun g m) page n k e in absurd (omega arith)
 started-leaves (refused j) g page n k high e = (refl, refl)
 
-header-refused : (g : Guest) (page : List ℕ) → headerSize ≤ afterReading g page .message .taken
+header-refused : (g : GuestState) (page : List ℕ) → headerSize ≤ afterReading g page .message .taken
     → (sizeIn (afterReading g page .message .header) ≡ fieldSize → ⊥)
     → (sizeIn (afterReading g page .message .header) ≡ fieldSize + fieldSize → ⊥) → readOn g page (unreadAcks g page) .answer ≡ number notAnAck
 unfolding readOn seen concluded
 header-refused g page there eight sixteen = rw (le-leb _ _ there, ne-eqb _ _ eight, ne-eqb _ _ sixteen) refl
 
-module _ (g : Guest) (page : List ℕ) where
+module _ (g : GuestState) (page : List ℕ) where
   -- an event refused by any number but 12 leaves both
   pub event-refused-leaves : (k : ℕ) → requestOwed < k → (k ≡ notAnAck → ⊥) → eventOf g page .answer ≡ number k → Leaves g page (eventOf g page)
   event-refused-leaves k high other =

@@ -1,44 +1,43 @@
 -- What a call finds on the page, by its tests; and what a start does, by what it finds and by what the writer answers.
 -- Assumes nothing.
 use mathlib.Core.Path.{_≡_, refl, sym, ap, _∙_}
-use mathlib.Core.List.{List, [], _++_}
-use mathlib.Core.Bool.{Bool, cond}
-use Prim.Native.Nat.{ℕ, _-_, _≤_, _<_}
+use mathlib.Core.List.{List, _++_}
+use mathlib.Core.Bool.{Bool, true, false, cond}
+use Prim.Native.Nat.{ℕ, _+_, _-_, _≤_, _<_}
 use native.Mathlib.Omega.{arith}
-use lib.ListN.{length, drop, length-append}
-use lib.Dec.{eqb, leb}
-use borrow.Author.Tests.{eq-eqb, ne-eqb, le-leb, lt-leb}
+use lib.ListN.{length, getD, set, drop}
+use lib.Dec.{eqb, leb, ltb}
+use borrow.Author.Tests.{eq-eqb, ne-eqb, le-leb, lt-leb, leb-false}
 use Rattle.octets.specs.Outcome.{Outcome, value, refused}
 use Rattle.octets.proofs.Outcomes.{value-same, refused-same, value-not-refused, test-value}
 use Rattle.octets.proofs.Truth.{by-test}
 use Rattle.toeplitz.specs.Hash.{keyLength}
 use Rattle.toeplitz.specs.Refusals.{keyLengthWrong}
-use Rattle.messages.specs.Wire.{headerSize, message, getFlagsType, allFlags}
+use Rattle.messages.specs.Wire.{allFlags}
 use Rattle.messages.specs.Settings.{isListed}
-use Rattle.messages.proofs.Parts.{length-message}
 use Rattle.ring.specs.Refusals.{pageWrong, requestsWrong, responsesWrong}
-use Rattle.ring.specs.Page.{pageSize, areaSize}
-use Rattle.ring.specs.Writing.{outgoingOf}
-use Rattle.ring.specs.declared.Outgoing.{Outgoing}
+use Rattle.ring.specs.Page.{pageSize, areaSize, requestsAt, advanced, countedByGuest, put}
+use Rattle.ring.specs.Writing.{fitting, sentOctets, sent}
 use Rattle.guest_messages.specs.Refusals.{valueNotListed, bufferTooShort, notAnAck}
+use Rattle.guest_messages.specs.Writer.{After, written, writtenOutcomeOf, after}
+use Rattle.guest_messages.specs.declared.Written.{Written}
+use Rattle.guest_messages.specs.declared.Written.the-variants.{Length, Buffer}
 use Rattle.frontend.specs.Refusals.{requestOutstanding}
-use Rattle.guest_messages.specs.Writer.{getFlagsMessage, setFlagsMessage, setKeyMessage, setMappingMessage, After, written, writtenOutcomeOf, after}
-use Rattle.frontend.specs.Guest.{maxRequest, idle, outstanding, failed, guestOf, outgoing, withOutgoing, refusalNumber}
-use Rattle.frontend.specs.Calls.{Found, unreadRequests, unreadAcks, found, wroteOn, begun, startedBy, readied, startBy, left, Starts}
-use Rattle.frontend.specs.Inner.{Readies, WritesOn}
-use Rattle.frontend.specs.declared.Guest.{Guest}
+use Rattle.frontend.specs.Guest.{GuestState, maxRequest, idle, outstanding, failed, guestOf, guestIn, outgoing, withOutgoing}
+use Rattle.frontend.specs.Guest.{number, pending, requestOwed, refusalNumber, toldOf}
+use Rattle.frontend.specs.Calls.{Found, unreadRequests, unreadAcks, found, wroteOn, messageOf, startedBy, readied, startBy, startOf, left}
+use Rattle.frontend.specs.Rules.{Asked, getsFlags, setsFlags, setsKey, setsMapping}
+use Rattle.frontend.specs.declared.Ask.{Ask}
+use Rattle.frontend.specs.declared.Ask.the-variants.{GetFlags, SetFlags, SetKey, SetMapping}
 use Rattle.frontend.specs.declared.Refusal.{Refusal}
 use Rattle.frontend.specs.declared.GuestAnswer.{GuestAnswer}
 use Rattle.frontend.specs.declared.GuestAnswer.the-variants.{Refused}
-use Rattle.guest_messages.specs.declared.Written.{Written}
-use Rattle.guest_messages.specs.declared.Written.the-variants.{Length, KeyLength, Value, Buffer}
-use Rattle.frontend.specs.declared.starting.Readiness.{Readiness}
-use Rattle.frontend.specs.declared.starting.Readiness.the-variants.{Room, Stopped}
-use Rattle.guest_messages.proofs.Buffers.{written-whole}
+use Rattle.frontend.proofs.Goodness.{asked-fits}
+use Rattle.frontend.proofs.Stored.{stored-outgoing}
 use Rattle.frontend.proofs.Ways.{found-ways}
 
 -- what a call finds: the page is wrong, or the one count, or the other; or an ack was refused; or the counts are good
-module _ (g : Guest) (page : List ℕ) where
+module _ (g : GuestState) (page : List ℕ) where
   pub found-page : (length page ≡ pageSize → ⊥) → refused pageWrong ≡ found g page
   unfolding found
   found-page wrong = rw (ne-eqb _ _ wrong) refl
@@ -83,29 +82,31 @@ module _ (g : Guest) (page : List ℕ) where
     unfolding readied
     not-refused k e = absurd (value-not-refused room k e)
 
-    room-found : value room ≡ readied (found g page) g → (length page ≡ pageSize) × (room ≤ areaSize)
+    pub room-found : value room ≡ readied (found g page) g → (length page ≡ pageSize) × (room ≤ areaSize)
     unfolding readied
     room-found =
         found-ways g page Known (λ w. not-refused _) (λ s m. not-refused _) (λ s r m. not-refused _) (λ ok f. not-refused _)
         (λ ok w e. let same = test-value (eqb (g .phase) idle) (areaSize - unreadRequests g page) room requestOutstanding (sym e) .1 in
         (ok .size, omega (arith, same)))
 
--- octets of the request written, and both counts
-pub writes-on : (g : Guest) (page : List ℕ) (room : ℕ) (r : GuestAnswer) (o : Outgoing) (octets : List ℕ)
-    → WritesOn (outgoing g) page (g .«rsp_cons») room r o octets → left r (withOutgoing g o) octets ≡ wroteOn g page room
+-- octets of the request sent, and both counts written
+pub writes-on : (g : GuestState) (page : List ℕ) (room n : ℕ) (r : GuestAnswer) (octets : List ℕ) → n ≡ fitting (outgoing g) room
+    → octets ≡ countedByGuest (put requestsAt page (g .«req_prod») (sentOctets (outgoing g) n)) (g .«rsp_cons») (advanced (g .«req_prod») n)
+    → toldOf r ≡ number (cond (ltb (g .written + n) (g .length)) requestOwed pending)
+    → left r (withOutgoing g (sent (outgoing g) n)) octets ≡ wroteOn g page room
 unfolding wroteOn
-writes-on g page room r o octets e = rw (e .answer, e .octets, e .side) refl
+writes-on g page room n r octets fits written answer = rw (answer, written, fits) refl
 
--- the writer's answer to a message that has its place
-answers-length : (w : Written) (n : ℕ) → writtenOutcomeOf w ≡ value n → w ≡ Length n
-answers-length (Length k) n e = ap Length (value-same k n e)
-answers-length KeyLength n e = absurd (value-not-refused n _ (sym e))
-answers-length Value n e = absurd (value-not-refused n _ (sym e))
-answers-length Buffer n e = absurd (value-not-refused n _ (sym e))
-
-has-place : (w : Written) (m request buffer : List ℕ) → length m ≤ length request → after w buffer ≡ written (value m) request
-    → w ≡ Length (length m)
-has-place w m request buffer short e = answers-length w (length m) (ap (λ (a : After). a .answer) (e ∙ sym (written-whole m request short)))
+-- the same, counted at their places
+pub stored-writes : (numbers request header payload : List ℕ) → length numbers ≡ 6 → (page octets : List ℕ) (room n written prod : ℕ) (r : GuestAnswer)
+    → written ≡ getD numbers 2 0 + n → prod ≡ advanced (getD numbers 3 0) n → n ≡ fitting (outgoing (guestIn numbers request header payload)) room
+    → octets ≡ countedByGuest (put requestsAt page (getD numbers 3 0) (sentOctets (outgoing (guestIn numbers request header payload)) n))
+    (getD numbers 5 0) prod
+    → toldOf r ≡ number (cond (ltb written (getD numbers 1 0)) requestOwed pending)
+    → left r (guestIn (set (set numbers 2 written) 3 prod) request header payload) octets ≡ wroteOn (guestIn numbers request header payload) page room
+stored-writes numbers request header payload long page octets room n written prod r ew ep fits eo answer =
+    rw (stored-outgoing numbers request header payload long written prod, ew, ep)
+    (writes-on (guestIn numbers request header payload) page room n r octets fits (rw ep at eo) (rw ew at answer))
 
 -- what a writer that answers a length n has done
 pub record Wrote (o : Outcome (List ℕ)) (request : List ℕ) (n : ℕ) (buffer : List ℕ) : Type 0 where
@@ -114,94 +115,86 @@ pub record Wrote (o : Outcome (List ℕ)) (request : List ℕ) (n : ℕ) (buffer
   pub size : n ≡ length message
   pub octets : buffer ≡ message ++ drop (length message) request
 
-wrote-so : (o : Outcome (List ℕ)) (request buffer : List ℕ) (n : ℕ) → after (Length n) buffer ≡ written o request → Wrote o request n buffer
-unfolding written
-wrote-so (value m) request buffer n =
-    by-test (λ (a : After). after (Length n) buffer ≡ a → Wrote (value m) request n buffer) (leb (length m) (length request)) _ _
-    (λ t e. record {
-      message = m;
-      is = refl;
-      size = value-same n (length m) (ap (λ (a : After). a .answer) e);
-      octets = ap (λ (a : After). a .buffer) e;
-    })
-    (λ t e. absurd (value-not-refused n bufferTooShort (ap (λ (a : After). a .answer) e)))
-wrote-so (refused k) request buffer n = λ e. absurd (value-not-refused n k (ap (λ (a : After). a .answer) e))
+-- a writer's answer for a message that it has, by whether the message has its place
+module _ (m request buffer : List ℕ) (w : Written) where
+  pub wrote-message : (n : ℕ) → w ≡ Length n → after w buffer ≡ written (value m) request → Wrote (value m) request n buffer
+  unfolding written
+  wrote-message n l e =
+      by-test (λ (a : After). after (Length n) buffer ≡ a → Wrote (value m) request n buffer) (leb (length m) (length request)) _ _
+      (λ t f. record {
+        message = m;
+        is = refl;
+        size = value-same n (length m) (ap (λ (a : After). a .answer) f);
+        octets = ap (λ (a : After). a .buffer) f;
+      })
+      (λ t f. absurd (value-not-refused n bufferTooShort (ap (λ (a : After). a .answer) f))) (rw l at e)
 
-pub wrote : (o : Outcome (List ℕ)) (w : Written) (request buffer : List ℕ) (n : ℕ) → w ≡ Length n → after w buffer ≡ written o request
+  -- it is refused for its place alone
+  pub no-other-refusal : (k : ℕ) → writtenOutcomeOf w ≡ refused k → after w buffer ≡ written (value m) request
+      → (k ≡ bufferTooShort) × (length request < length m)
+  unfolding written
+  no-other-refusal k r =
+      by-test (λ (a : After). after w buffer ≡ a → (k ≡ bufferTooShort) × (length request < length m)) (leb (length m) (length request)) _ _
+      (λ t f. absurd (value-not-refused (length m) k (sym (ap (λ (a : After). a .answer) f) ∙ r)))
+      (λ t f. (sym (refused-same bufferTooShort k (sym (ap (λ (a : After). a .answer) f) ∙ r)), leb-false _ _ t))
+
+pub wrote : (o : Outcome (List ℕ)) (request buffer : List ℕ) (w : Written) (n : ℕ) → w ≡ Length n → after w buffer ≡ written o request
     → Wrote o request n buffer
-wrote o w request buffer n l e = wrote-so o request buffer n (rw l at e)
+unfolding written
+wrote (value m) request buffer w n l e = wrote-message m request buffer w n l e
+wrote (refused k) request buffer w n l e = absurd (value-not-refused n k (ap writtenOutcomeOf (sym l) ∙ ap (λ (a : After). a .answer) e))
 
--- a request of a header alone, which has its place
-pub wrote-header : (w : Written) (request buffer : List ℕ) → length request ≡ maxRequest → after w buffer ≡ written getFlagsMessage request
-    → Wrote getFlagsMessage request headerSize buffer
-wrote-header w request buffer long e =
-    let m = message getFlagsType [] in
-    let eight : length m ≡ headerSize = length-message getFlagsType [] in
-    wrote getFlagsMessage w request buffer headerSize (has-place w m request buffer (omega (arith, eight)) e ∙ ap Length eight) e
+-- what a writer that refuses by another number than that of its place has done
+pub refuses : (o : Outcome (List ℕ)) (request buffer : List ℕ) (w : Written) (k : ℕ) → (k ≡ bufferTooShort → ⊥) → writtenOutcomeOf w ≡ refused k
+    → after w buffer ≡ written o request → (o ≡ refused k) × (buffer ≡ request)
+unfolding written
+refuses (value m) request buffer w k other r e = absurd (other (no-other-refusal m request buffer w k r e .0))
+refuses (refused j) request buffer w k other r e =
+    (ap refused (refused-same j k (sym (ap (λ (a : After). a .answer) e) ∙ r)), ap (λ (a : After). a .buffer) e)
 
--- each request that the writer refuses for itself has one number of refusal
-abbrev Only : ℕ → Outcome (List ℕ) → Type 0
-Only k o = (j : ℕ) → o ≡ refused j → j ≡ k
+-- and it refuses none of the four requests for its place
+module _ (o : Outcome (List ℕ)) (asked : Asked o) where
+  never-ten : (o ≡ refused bufferTooShort) → ⊥
+  never-ten = never o asked
+    where
+      test : (t : Bool) (m : List ℕ) (k : ℕ) → (k ≡ bufferTooShort → ⊥) → cond t (value m) (refused k) ≡ refused bufferTooShort → ⊥
+      test true m k other e = value-not-refused m bufferTooShort e
+      test false m k other e = other (refused-same k bufferTooShort e)
 
-only-test : (t : Bool) (m : List ℕ) (k : ℕ) → Only k (cond t (value m) (refused k))
-only-test t m k = by-test (Only k) t (value m) (refused k) (λ u j e. absurd (value-not-refused m j e)) (λ u j e. sym (refused-same k j e))
+      never : (r : Outcome (List ℕ)) → Asked r → r ≡ refused bufferTooShort → ⊥
+      never _ getsFlags e = value-not-refused _ bufferTooShort e
+      never _ (setsFlags flags) e = test (leb flags allFlags) _ valueNotListed (λ x. omega (arith, x)) e
+      never _ (setsKey key) e = test (eqb (length key) keyLength) _ keyLengthWrong (λ x. omega (arith, x)) e
+      never _ (setsMapping entries) e = test (isListed (length entries)) _ valueNotListed (λ x. omega (arith, x)) e
 
-pub only-set-flags : (flags : ℕ) → Only valueNotListed (setFlagsMessage flags)
-only-set-flags flags = only-test (leb flags allFlags) _ valueNotListed
+  pub has-place : (request buffer : List ℕ) → length request ≡ maxRequest → after Buffer buffer ≡ written o request → ⊥
+  unfolding written
+  has-place request buffer long = by o refl
+    where
+      by : (r : Outcome (List ℕ)) → o ≡ r → after Buffer buffer ≡ written r request → ⊥
+      by (value m) is e = omega (arith, no-other-refusal m request buffer Buffer bufferTooShort refl e .1, asked-fits o asked m is)
+      by (refused k) is e = never-ten (is ∙ ap refused (sym (refused-same bufferTooShort k (ap (λ (a : After). a .answer) e))))
 
-pub only-set-key : (key : List ℕ) → Only keyLengthWrong (setKeyMessage key)
-only-set-key key = only-test (eqb (length key) keyLength) _ keyLengthWrong
+-- what is asked for is one of the four requests
+pub asks : (ask : Ask) (key entries : List ℕ) → Asked (messageOf ask key entries)
+asks GetFlags key entries = getsFlags
+asks (SetFlags flags) key entries = setsFlags flags
+asks SetKey key entries = setsKey key
+asks SetMapping key entries = setsMapping entries
 
-pub only-set-mapping : (entries : List ℕ) → Only valueNotListed (setMappingMessage entries)
-only-set-mapping entries = only-test (isListed (length entries)) _ valueNotListed
-
--- a start of a guest in this phase and with these counts, by what it finds
-module _ (phase reqProd rspCons : ℕ) (page : List ℕ) (s : Readiness) (readies : Readies phase reqProd rspCons page s) where
-  -- is stopped
-  pub starts-stopped : (o : Outcome (List ℕ)) (request : List ℕ) (size count : ℕ) (k : Refusal) → s ≡ Stopped k
-      → Starts o phase request size count reqProd rspCons page (Refused k) phase request size count reqProd page
+-- a start, by what it finds: it is stopped
+module _ (o : Outcome (List ℕ)) (g : GuestState) (page : List ℕ) where
+  pub starts-stopped : (k : Refusal) → refused (refusalNumber k) ≡ readied (found g page) g → left (Refused k) g page ≡ startOf o g page
   unfolding startBy
-  starts-stopped o request size count k e header payload taken =
-      let g = guestOf phase request size count reqProd header payload taken rspCons in
-      let stopped : refused (refusalNumber k) ≡ readied (found g page) g = rw e at (readies g refl refl refl) in
-      rw (← stopped) refl
+  starts-stopped k stopped = rw (← stopped) refl
 
-  -- has room
-  module _ (room : ℕ) (is : s ≡ Room room) where
-    -- may begin with a request in its place
-    pub may-begin : (o : Outcome (List ℕ)) (request : List ℕ) (n : ℕ) (buffer : List ℕ) → Wrote o request n buffer
-        → (length page ≡ pageSize) × (room ≤ areaSize) × (n ≤ length buffer)
-    may-begin o request n buffer w =
-        let g = guestOf phase request 0 0 reqProd [] [] 0 rspCons in
-        let within = room-found g page room (rw is at (readies g refl refl refl)) in
-        (within .0, within .1, rw (w .octets, length-append) (omega (arith, w .size)))
+  -- or it has room: the writer refuses the request, or it begins
+  module _ (room : ℕ) (there : value room ≡ readied (found g page) g) where
+    pub starts-refused : (k : Refusal) → o ≡ refused (refusalNumber k) → left (Refused k) g page ≡ startOf o g page
+    unfolding startBy startedBy
+    starts-refused k e = rw (← there, e) refl
 
-    module _ (request : List ℕ) (size count : ℕ) where
-      -- is refused where the writer refuses the request, which it does not for its place
-      pub starts-refused : (o : Outcome (List ℕ)) (k : Refusal) (w : Written) (buffer : List ℕ) → length request ≡ maxRequest
-          → ((m : List ℕ) → o ≡ value m → length m ≤ maxRequest) → Only (refusalNumber k) o → ((n : ℕ) → w ≡ Length n → ⊥)
-          → after w buffer ≡ written o request
-          → Starts o phase request size count reqProd rspCons page (Refused k) phase buffer size count reqProd page
-      unfolding startBy startedBy written
-      starts-refused (value m) k w buffer long short only none e header payload taken =
-          absurd (none (length m) (has-place w m request buffer (omega (arith, short m refl)) e))
-      starts-refused (refused j) k w buffer long short only none e header payload taken =
-          let g = guestOf phase request size count reqProd header payload taken rspCons in
-          let there : value room ≡ readied (found g page) g = rw is at (readies g refl refl refl) in
-          rw (← there, only j refl, ap (λ (a : After). a .buffer) e) refl
-
-      -- and begins
-      pub starts-with : (o : Outcome (List ℕ)) (n : ℕ) (buffer : List ℕ) → Wrote o request n buffer
-          → (r : GuestAnswer) (phase′ size′ count′ reqProd′ : ℕ) (page′ : List ℕ)
-          → ((phase′ ≡ outstanding) × (size′ ≡ n))
-          × WritesOn (outgoingOf buffer n 0 reqProd) page rspCons room r (outgoingOf buffer n count′ reqProd′) page′
-          → Starts o phase request size count reqProd rspCons page r phase′ buffer size′ count′ reqProd′ page′
-      unfolding startBy startedBy
-      starts-with o n buffer w r phase′ size′ count′ reqProd′ page′ begins header payload taken =
-          let g = guestOf phase request size count reqProd header payload taken rspCons in
-          let there : value room ≡ readied (found g page) g = rw is at (readies g refl refl refl) in
-          let h = guestOf outstanding buffer n 0 reqProd header payload taken rspCons in
-          let same : h ≡ begun g (w .message) = rw (w .octets, w .size) refl in
-          rw (begins .0 .0, begins .0 .1) (writes-on h page room r (outgoingOf buffer n count′ reqProd′) page′ (begins .1))
-          ∙ ap (λ (x : Guest). wroteOn x page room) same
-          ∙ rw (← there, w .is) refl
+    pub starts-with : (n : ℕ) (buffer : List ℕ) → Wrote o (g .request) n buffer
+        → wroteOn (guestOf outstanding buffer n 0 (g .«req_prod») (g .header) (g .payload) (g .taken) (g .«rsp_cons»)) page room ≡ startOf o g page
+    unfolding startBy startedBy
+    starts-with n buffer w = rw (w .octets, w .size, ← there, w .is) refl

@@ -23,7 +23,7 @@ use Rattle.frontend.specs.Guest.{idle, failed, withIncoming, owes, numbe
 use Rattle.frontend.specs.Calls.{After, Found, unreadRequests, unreadAcks, found, refusedWith, answeredWith, wroteOn, startedBy, readied, startBy}
 use Rattle.frontend.specs.Calls.{startOf, sizeWrong, messageOctets, Seen, part, judged, seen, doneWith, concluded, readOn, eventBy, eventOf}
 use Rattle.frontend.specs.Rules.{Accepted, room, afterReading}
-use Rattle.frontend.specs.declared.Guest.{Guest}
+use Rattle.frontend.specs.Guest.{GuestState}
 
 -- what a call finds keeps to the areas of a whole page
 pub record Within (page : List ℕ) (f : Found) : Type 0 where
@@ -31,7 +31,7 @@ pub record Within (page : List ℕ) (f : Found) : Type 0 where
   pub room : f .room ≤ areaSize
   pub unread : f .unread ≤ areaSize
 
-module _ (g : Guest) (page : List ℕ) where
+module _ (g : GuestState) (page : List ℕ) where
   -- what a call finds
   abbrev counts : Found
   counts = record { room = room g page; unread = unreadAcks g page }

@@ -4,15 +4,15 @@ use mathlib.Core.Path.{_≡_}
 use mathlib.Core.List.{List}
 use mathlib.Core.Bool.{Bool}
 use Prim.Native.Nat.{ℕ, _≤_, _<_}
-use lib.ListN.{replicate}
+use lib.ListN.{getD, replicate}
 use lib.Dec.{ltb}
 use Rattle.toeplitz.specs.Refusals.{keyLengthWrong}
 use Rattle.messages.specs.Wire.{headerSize, success}
 use Rattle.ring.specs.Refusals.{pageWrong, requestsWrong, responsesWrong}
 use Rattle.ring.specs.Reading.{incomingOf, GoodIncoming}
 use Rattle.ring.specs.Writing.{outgoingOf, owed, GoodOutgoing}
-use Rattle.ring.specs.declared.Incoming.{Incoming}
-use Rattle.ring.specs.declared.Outgoing.{Outgoing}
+use Rattle.ring.specs.Reading.{Incoming}
+use Rattle.ring.specs.Writing.{Outgoing}
 use Rattle.guest_messages.specs.Refusals.{valueNotListed, notAnAck}
 use Rattle.frontend.specs.Refusals.{requestOutstanding}
 use Rattle.guest_messages.specs.Reader.{Reading, status, statusAndFlags}
@@ -39,8 +39,21 @@ outstanding = 1
 abbrev pub failed : ℕ
 failed = 2
 
+-- the state of a guest, as the rules speak of it: its phase; the present request, of `length` octets, of which `written` are
+-- on the page, with the own req_prod; and what has been read of its ack, with the own rsp_cons
+pub record GuestState : Type 0 where
+  pub phase : ℕ
+  pub request : List ℕ
+  pub length : ℕ
+  pub written : ℕ
+  pub «req_prod» : ℕ
+  pub header : List ℕ
+  pub payload : List ℕ
+  pub taken : ℕ
+  pub «rsp_cons» : ℕ
+
 -- a guest by its parts
-abbrev pub guestOf : ℕ → List ℕ → ℕ → ℕ → ℕ → List ℕ → List ℕ → ℕ → ℕ → Guest
+abbrev pub guestOf : ℕ → List ℕ → ℕ → ℕ → ℕ → List ℕ → List ℕ → ℕ → ℕ → GuestState
 guestOf phase request size written reqProd header payload taken rspCons =
     record {
       phase = phase;
@@ -54,33 +67,44 @@ guestOf phase request size written reqProd header payload taken rspCons =
       «rsp_cons» = rspCons;
     }
 
+-- how it is stored: six numbers in one list, and three arrays of octets. The numbers are, in this order: phase, octets of the
+-- request, how many of them are written, own req_prod, octets taken of the ack, own rsp_cons
+abbrev pub guestIn : List ℕ → List ℕ → List ℕ → List ℕ → GuestState
+guestIn numbers request header payload =
+    guestOf (getD numbers 0 0) request (getD numbers 1 0) (getD numbers 2 0) (getD numbers 3 0) header payload (getD numbers 4 0)
+    (getD numbers 5 0)
+
+-- the state that the struct of a guest holds
+abbrev pub stateOf : Guest → GuestState
+stateOf g = guestIn (g .numbers) (g .request) (g .header) (g .payload)
+
 -- its two sides: the request that it writes, with its own req_prod, and the ack that it reads, with its own rsp_cons
-abbrev pub outgoing : Guest → Outgoing
+abbrev pub outgoing : GuestState → Outgoing
 outgoing g = outgoingOf (g .request) (g .length) (g .written) (g .«req_prod»)
 
-abbrev pub incoming : Guest → Incoming
+abbrev pub incoming : GuestState → Incoming
 incoming g = incomingOf (g .header) (g .payload) (g .taken) (g .«rsp_cons»)
 
 -- the guest with another of them
-abbrev pub withOutgoing : Guest → Outgoing → Guest
+abbrev pub withOutgoing : GuestState → Outgoing → GuestState
 withOutgoing g o =
     guestOf (g .phase) (o .octets) (o .length) (o .written) (o .prod) (g .header) (g .payload) (g .taken) (g .«rsp_cons»)
 
-abbrev pub withIncoming : Guest → Incoming → Guest
+abbrev pub withIncoming : GuestState → Incoming → GuestState
 withIncoming g i =
     guestOf (g .phase) (g .request) (g .length) (g .written) (g .«req_prod») (i .message .header) (i .message .payload)
     (i .message .taken) (i .cons)
 
 -- whether octets of the request are owed
-abbrev pub owes : Guest → Bool
+abbrev pub owes : GuestState → Bool
 owes g = ltb (g .written) (g .length)
 
 -- at setup: no request, nothing read, both own counts 0
-abbrev pub guestAtSetup : Guest
+abbrev pub guestAtSetup : GuestState
 guestAtSetup = guestOf idle (replicate maxRequest 0) 0 0 0 (replicate headerSize 0) (replicate maxAckPayload 0) 0 0
 
 -- a good state: what holds of a guest from setup on
-pub record Good (g : Guest) : Type 0 where
+pub record Good (g : GuestState) : Type 0 where
   pub phase : g .phase ≤ failed
   pub request : GoodOutgoing maxRequest (outgoing g)
   pub ack : GoodIncoming maxAckPayload (incoming g)

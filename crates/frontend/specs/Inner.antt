@@ -2,20 +2,14 @@
 -- Assumes nothing.
 use mathlib.Core.Path.{_≡_}
 use mathlib.Core.List.{List}
-use mathlib.Core.Bool.{cond}
 use Prim.Native.Nat.{ℕ}
-use lib.Dec.{ltb}
+use lib.ListN.{length, getD, set}
 use Rattle.octets.specs.Outcome.{Outcome, value, refused}
 use Rattle.messages.specs.Wire.{typeIn, success}
-use Rattle.ring.specs.Page.{requestsAt, countedByGuest, put}
-use Rattle.ring.specs.Writing.{fitting, sentOctets, sent}
-use Rattle.ring.specs.declared.Incoming.{Incoming}
-use Rattle.ring.specs.declared.Outgoing.{Outgoing}
 use Rattle.guest_messages.specs.Refusals.{notAnAck}
 use Rattle.guest_messages.specs.Reader.{status, statusAndFlags}
-use Rattle.frontend.specs.Guest.{guestOf, incoming, withIncoming, number, pending, requestOwed, refusalNumber, toldOf}
-use Rattle.frontend.specs.Calls.{Found, found, readied, Seen, part, judged, readOn, left}
-use Rattle.frontend.specs.declared.Guest.{Guest}
+use Rattle.frontend.specs.Guest.{GuestState, outstanding, guestOf, guestIn, refusalNumber}
+use Rattle.frontend.specs.Calls.{Found, found, wroteOn, readied, Seen, part, judged, readOn, left}
 use Rattle.frontend.specs.declared.GuestAnswer.{GuestAnswer}
 use Rattle.frontend.specs.declared.calls.Finding.{Finding}
 use Rattle.frontend.specs.declared.calls.Finding.the-variants.{Counts, Hindered}
@@ -42,25 +36,33 @@ sightOf Refused = judged (refused notAnAck)
 -- what any guest in this phase and with these counts finds on the page
 abbrev pub Finds : ℕ → ℕ → ℕ → List ℕ → Finding → Type 0
 Finds phase reqProd rspCons page r =
-    (g : Guest) → g .phase ≡ phase → g .«req_prod» ≡ reqProd → g .«rsp_cons» ≡ rspCons → findingOf r ≡ found g page
+    (g : GuestState) → g .phase ≡ phase → g .«req_prod» ≡ reqProd → g .«rsp_cons» ≡ rspCons → findingOf r ≡ found g page
 
 abbrev pub Readies : ℕ → ℕ → ℕ → List ℕ → Readiness → Type 0
 Readies phase reqProd rspCons page r =
-    (g : Guest) → g .phase ≡ phase → g .«req_prod» ≡ reqProd → g .«rsp_cons» ≡ rspCons → readinessOf r ≡ readied (found g page) g
+    (g : GuestState) → g .phase ≡ phase → g .«req_prod» ≡ reqProd → g .«rsp_cons» ≡ rspCons → readinessOf r ≡ readied (found g page) g
 
--- as many octets of the request written as fit into `room` octets, and both counts behind them
-pub record WritesOn (o : Outgoing) (page : List ℕ) (rspCons room : ℕ) (r : GuestAnswer) (next : Outgoing) (left : List ℕ) : Type 0 where
-  pub side : next ≡ sent o (fitting o room)
-  pub octets : left ≡ countedByGuest (put requestsAt page (o .prod) (sentOctets o (fitting o room))) rspCons (next .prod)
-  pub answer : toldOf r ≡ number (cond (ltb (next .written) (next .length)) requestOwed pending)
+-- as many octets of the request written as fit into `room` octets, and both counts behind them, whatever has been read of an
+-- ack
+abbrev pub WritesOn : List ℕ → List ℕ → List ℕ → ℕ → GuestAnswer → List ℕ → List ℕ → Type 0
+WritesOn numbers request page room r numbers′ page′ =
+    (header payload : List ℕ)
+    → left r (guestIn numbers′ request header payload) page′ ≡ wroteOn (guestIn numbers request header payload) page room
 
--- the guest in another phase
-abbrev pub withPhase : Guest → ℕ → Guest
-withPhase g phase =
-    guestOf phase (g .request) (g .length) (g .written) (g .«req_prod») (g .header) (g .payload) (g .taken) (g .«rsp_cons»)
+-- the same of a request of n octets that is in its place, of which nothing is written yet
+abbrev pub Begins : ℕ → List ℕ → List ℕ → List ℕ → ℕ → GuestAnswer → List ℕ → List ℕ → Type 0
+Begins n numbers request page room r numbers′ page′ =
+    (header payload : List ℕ)
+    → left r (guestIn numbers′ request header payload) page′
+    ≡ wroteOn (guestOf outstanding request n 0 (getD numbers 3 0) header payload (getD numbers 4 0) (getD numbers 5 0)) page room
 
--- the ack read by any guest with this reading side, in this phase, whose request has this type
-abbrev pub Collects : ℕ → ℕ → ℕ → List ℕ → ℕ → Incoming → GuestAnswer → ℕ → Incoming → List ℕ → Type 0
-Collects kind reqProd unread page phase i r phase′ i′ page′ =
-    (g : Guest) → typeIn (g .request) ≡ kind → g .«req_prod» ≡ reqProd → g .phase ≡ phase → incoming g ≡ i
-    → left r (withPhase (withIncoming g i′) phase′) page′ ≡ readOn g page unread
+-- the ack read by a guest whose request has this type
+abbrev pub Collects : ℕ → List ℕ → List ℕ → List ℕ → List ℕ → ℕ → GuestAnswer → List ℕ → List ℕ → List ℕ → List ℕ → Type 0
+Collects kind numbers header payload page unread r numbers′ header′ payload′ page′ =
+    (request : List ℕ) → typeIn request ≡ kind
+    → left r (guestIn numbers′ request header′ payload′) page′ ≡ readOn (guestIn numbers request header payload) page unread
+
+-- phase, octets taken and own rsp_cons put into their places
+pub record Keeps (numbers : List ℕ) (phase taken rspCons : ℕ) (numbers′ : List ℕ) : Type 0 where
+  pub size : length numbers ≡ 6
+  pub stored : numbers′ ≡ set (set (set numbers 0 phase) 4 taken) 5 rspCons

@@ -1,14 +1,21 @@
 // What the calls of the guest's end share: what a call finds on the page, and the request written on.
 ghost use mathlib.Core.Path.{_≡_};
-ghost use Prim.Native.Nat.{_≤_};
-ghost use lib.ListN.{length};
+ghost use mathlib.Core.List.{[]};
+ghost use Prim.Native.Nat.{_^_, _≤_, _<_};
+ghost use lib.ListN.{length, getD};
 ghost use Rattle.ring.specs.Page.{pageSize, areaSize, reqConsAt, rspProdAt, countIn, less};
-ghost use Rattle.ring.specs.Writing.{outgoingOf};
+ghost use Rattle.ring.specs.Writing.{GoodOutgoing};
+ghost use Rattle.frontend.specs.Guest.{maxRequest, guestIn, outgoing};
 ghost use Rattle.frontend.specs.Inner.{Finds, WritesOn};
 use crate::FAILED;
 use crate::GuestAnswer;
+use crate::LENGTH;
 use crate::MAX_REQUEST;
+use crate::NUMBERS;
+use crate::OWN_REQ_PROD;
+use crate::OWN_RSP_CONS;
 use crate::Refusal;
+use crate::WRITTEN;
 use ring::AREA;
 use ring::PAGE;
 use ring::REQ_CONS;
@@ -24,7 +31,7 @@ pub enum Finding {
 }
 
 // Looks at the page's length, at both counts of the host, and at whether an ack was refused, in this order.
-pub fn find(page: &[u8], phase: u32, req_prod: u32, rsp_cons: u32) -> Finding
+pub fn find(page: &[u8], phase: u64, req_prod: u32, rsp_cons: u32) -> Finding
     ensures { λ r. ⌜ Finds phase «req_prod» «rsp_cons» (now (page .entry)) r ⌝ }
 {
     if page.len() != PAGE {
@@ -62,23 +69,35 @@ fn unread(page: &[u8], rsp_cons: u32) -> u32
 
 // Writes as many octets of the request as fit into `room` octets, and both counts.
 pub fn write_on(
-    page: &mut [u8],
+    numbers: &mut [u64; NUMBERS],
     request: &[u8; MAX_REQUEST],
-    size: usize,
-    written: &mut usize,
-    req_prod: &mut u32,
-    rsp_cons: u32,
     room: u32,
+    page: &mut [u8],
 ) -> GuestAnswer
-    requires { ⌜ (length (now page) ≡ pageSize) × (room ≤ areaSize) × (now written ≤ size) × (size ≤ length (now request)) ⌝ }
-    ensures { λ r. ⌜ WritesOn
-        (outgoingOf (now (request .entry)) size (now (written .entry)) (now («req_prod» .entry))) (now (page .entry))
-        «rsp_cons» room r
-        (outgoingOf (now (request .entry)) size (now (written .exit)) (now («req_prod» .exit))) (now (page .exit)) ⌝ }
+    requires { ⌜ (length (now page) ≡ pageSize) × (room ≤ areaSize) × (getD (now numbers) 5 0 < 2 ^ 32) ⌝ }
+    requires { ⌜ GoodOutgoing maxRequest (outgoing (guestIn (now numbers) (now request) [] [])) ⌝ }
+    ensures { λ r. ⌜ WritesOn (now (numbers .entry)) (now (request .entry)) (now (page .entry)) room r (now (numbers .exit)) (now (page .exit)) ⌝ }
 {
-    ring::send(page, REQUESTS, &request[..], size, written, req_prod, room);
-    ring::write_counts(page, RSP_CONS, rsp_cons, REQ_PROD, *req_prod);
-    if *written < size {
+    let held = &mut numbers[..];
+    let rsp_cons = held[OWN_RSP_CONS] as u32;
+    let size = held[LENGTH];
+    let before = held[WRITTEN];
+    let count = held[OWN_REQ_PROD] as u32;
+    let n = ring::send(
+        page,
+        REQUESTS,
+        &request[..],
+        size as usize,
+        before as usize,
+        count,
+        room,
+    );
+    let written = before + n as u64;
+    let req_prod = std::num::wrapping_add_u32(count, n);
+    held[WRITTEN] = written;
+    held[OWN_REQ_PROD] = req_prod as u64;
+    ring::write_counts(page, RSP_CONS, rsp_cons, REQ_PROD, req_prod);
+    if written < size {
         GuestAnswer::RequestOwed
     } else {
         GuestAnswer::Pending

@@ -3,20 +3,27 @@
 ghost use mathlib.Core.Path.{_≡_};
 ghost use mathlib.Core.List.{_++_};
 ghost use mathlib.Core.Bool.{false};
-ghost use Prim.Native.Nat.{_≤_};
-ghost use lib.ListN.{length, take};
+ghost use Prim.Native.Nat.{_^_, _≤_, _<_};
+ghost use lib.ListN.{length, getD, take};
 ghost use Rattle.ring.specs.Page.{pageSize, areaSize};
-ghost use Rattle.ring.specs.Reading.{isWhole, incomingOf};
+ghost use Rattle.ring.specs.Reading.{isWhole};
 ghost use Rattle.guest_messages.specs.Reader.{readAck};
-ghost use Rattle.frontend.specs.Guest.{Good, guestOf, maxAckPayload};
+ghost use Rattle.frontend.specs.Guest.{Good, guestIn, maxAckPayload};
 ghost use Rattle.frontend.specs.Calls.{left, judged, seen, eventOf};
-ghost use Rattle.frontend.specs.Inner.{sightOf, Collects};
+ghost use Rattle.frontend.specs.Inner.{sightOf, Collects, Keeps};
 use crate::FAILED;
 use crate::GuestAnswer;
 use crate::IDLE;
+use crate::LENGTH;
 use crate::MAX_ACK_PAYLOAD;
 use crate::MAX_REQUEST;
+use crate::NUMBERS;
+use crate::OWN_REQ_PROD;
+use crate::OWN_RSP_CONS;
+use crate::PHASE;
 use crate::Refusal;
+use crate::TAKEN;
+use crate::WRITTEN;
 use crate::calls::Finding;
 use crate::calls::find;
 use crate::calls::write_on;
@@ -44,51 +51,43 @@ const STATUS_ALONE: u32 = FIELD as u32;
 
 const WITH_FLAGS: u32 = STATUS_ALONE + STATUS_ALONE;
 
-// One event of a guest whose parts are lent, on its page.
-pub fn event_in_place<'a>(
-    phase: &'a mut u32,
+// One event of the guest whose parts are lent, on its page.
+pub fn event<'a>(
+    numbers: &'a mut [u64; NUMBERS],
     request: &'a [u8; MAX_REQUEST],
-    size: usize,
-    written: &'a mut usize,
-    req_prod: &'a mut u32,
     header: &'a mut [u8; HEADER],
     payload: &'a mut [u8; MAX_ACK_PAYLOAD],
-    taken: &'a mut u64,
-    rsp_cons: &'a mut u32,
     page: &mut [u8],
 ) -> GuestAnswer
-    requires { ⌜ Good (guestOf (now phase) (now request) size (now written) (now «req_prod») (now header) (now payload)
-        (now taken) (now «rsp_cons»)) ⌝ }
-    ensures { λ r. ⌜ left r (guestOf (now (phase .exit)) (now (request .entry)) size (now (written .exit)) (now («req_prod» .exit))
-        (now (header .exit)) (now (payload .exit)) (now (taken .exit)) (now («rsp_cons» .exit))) (now (page .exit))
-        ≡ eventOf (guestOf (now (phase .entry)) (now (request .entry)) size (now (written .entry)) (now («req_prod» .entry))
-        (now (header .entry)) (now (payload .entry)) (now (taken .entry)) (now («rsp_cons» .entry))) (now (page .entry)) ⌝ }
-    ensures { λ _. ⌜ Good (guestOf (now (phase .exit)) (now (request .entry)) size (now (written .exit)) (now («req_prod» .exit))
-        (now (header .exit)) (now (payload .exit)) (now (taken .exit)) (now («rsp_cons» .exit))) ⌝ }
+    requires { ⌜ Good (guestIn (now numbers) (now request) (now header) (now payload)) ⌝ }
+    ensures { λ r. ⌜ (left r (guestIn (now (numbers .exit)) (now (request .entry)) (now (header .exit)) (now (payload .exit))) (now (page .exit))
+        ≡ eventOf (guestIn (now (numbers .entry)) (now (request .entry)) (now (header .entry)) (now (payload .entry))) (now (page .entry)))
+        × Good (guestIn (now (numbers .exit)) (now (request .entry)) (now (header .exit)) (now (payload .exit))) ⌝ }
 {
-    let finding = find(&page[..], *phase, *req_prod, *rsp_cons);
+    let finding = find(
+        &page[..],
+        numbers[PHASE],
+        numbers[OWN_REQ_PROD] as u32,
+        numbers[OWN_RSP_CONS] as u32,
+    );
     match finding {
         Finding::Hindered(refusal) => GuestAnswer::Refused(refusal),
         Finding::Counts(room, unread) => {
-            if *phase == IDLE {
-                ring::write_counts(page, RSP_CONS, *rsp_cons, REQ_PROD, *req_prod);
+            if numbers[PHASE] == IDLE {
+                ring::write_counts(
+                    page,
+                    RSP_CONS,
+                    numbers[OWN_RSP_CONS] as u32,
+                    REQ_PROD,
+                    numbers[OWN_REQ_PROD] as u32,
+                );
                 return GuestAnswer::Pending;
             }
-            if *written < size {
-                return write_on(page, request, size, written, req_prod, *rsp_cons, room);
+            if numbers[WRITTEN] < numbers[LENGTH] {
+                return write_on(numbers, request, room, page);
             }
             let kind = octets::read_u32(request, 0);
-            collect(
-                page,
-                kind,
-                *req_prod,
-                unread,
-                phase,
-                header,
-                payload,
-                taken,
-                rsp_cons,
-            )
+            collect(page, kind, unread, numbers, header, payload)
         }
     }
 }
@@ -98,56 +97,62 @@ pub fn event_in_place<'a>(
 fn collect(
     page: &mut [u8],
     kind: u32,
-    req_prod: u32,
     unread: u32,
-    phase: &mut u32,
+    numbers: &mut [u64; NUMBERS],
     header: &mut [u8; HEADER],
     payload: &mut [u8; MAX_ACK_PAYLOAD],
-    taken: &mut u64,
-    rsp_cons: &mut u32,
 ) -> GuestAnswer
-    requires { ⌜ (length (now page) ≡ pageSize) × (unread ≤ areaSize) × (isWhole (now header) (now taken) ≡ false) ⌝ }
-    ensures { λ r. ⌜ Collects kind «req_prod» unread (now (page .entry)) (now (phase .entry))
-        (incomingOf (now (header .entry)) (now (payload .entry)) (now (taken .entry)) (now («rsp_cons» .entry))) r
-        (now (phase .exit))
-        (incomingOf (now (header .exit)) (now (payload .exit)) (now (taken .exit)) (now («rsp_cons» .exit)))
-        (now (page .exit)) ⌝ }
+    requires { ⌜ (length (now page) ≡ pageSize) × (unread ≤ areaSize) × (isWhole (now header) (getD (now numbers) 4 0) ≡ false) ⌝ }
+    requires { ⌜ (getD (now numbers) 3 0 < 2 ^ 32) × (getD (now numbers) 5 0 < 2 ^ 32) ⌝ }
+    ensures { λ r. ⌜ Collects kind (now (numbers .entry)) (now (header .entry)) (now (payload .entry)) (now (page .entry)) unread r
+        (now (numbers .exit)) (now (header .exit)) (now (payload .exit)) (now (page .exit)) ⌝ }
 {
-    let before = *rsp_cons;
-    ring::receive(
+    let phase = numbers[PHASE];
+    let before = numbers[OWN_RSP_CONS] as u32;
+    let req_prod = numbers[OWN_REQ_PROD] as u32;
+    let n = ring::receive(
         &page[..],
         RESPONSES,
         header,
         payload,
-        taken,
-        rsp_cons,
+        numbers[TAKEN],
+        before,
         unread,
     );
-    let sight = look(kind, header, payload, *taken);
+    let taken = numbers[TAKEN] + n as u64;
+    let rsp_cons = std::num::wrapping_add_u32(before, n);
+    let sight = look(kind, header, payload, taken);
     match sight {
         Sight::Partly => {
-            ring::write_counts(page, RSP_CONS, *rsp_cons, REQ_PROD, req_prod);
+            keep(numbers, phase, taken, rsp_cons);
+            ring::write_counts(page, RSP_CONS, rsp_cons, REQ_PROD, req_prod);
             GuestAnswer::Pending
         }
         Sight::Refused => {
-            *phase = FAILED;
-            *taken = 0;
-            *rsp_cons = before;
+            keep(numbers, FAILED, 0, before);
             GuestAnswer::Refused(Refusal::AckRefused)
         }
         Sight::Status(status) => {
-            *phase = IDLE;
-            *taken = 0;
-            ring::write_counts(page, RSP_CONS, *rsp_cons, REQ_PROD, req_prod);
+            keep(numbers, IDLE, 0, rsp_cons);
+            ring::write_counts(page, RSP_CONS, rsp_cons, REQ_PROD, req_prod);
             GuestAnswer::AckedStatus(status)
         }
         Sight::Flags(flags) => {
-            *phase = IDLE;
-            *taken = 0;
-            ring::write_counts(page, RSP_CONS, *rsp_cons, REQ_PROD, req_prod);
+            keep(numbers, IDLE, 0, rsp_cons);
+            ring::write_counts(page, RSP_CONS, rsp_cons, REQ_PROD, req_prod);
             GuestAnswer::AckedFlags(flags)
         }
     }
+}
+
+// Puts the phase, the octets taken of the ack and the own rsp_cons into their places.
+fn keep(numbers: &mut [u64; NUMBERS], phase: u64, taken: u64, rsp_cons: u32)
+    ensures { λ _. ⌜ Keeps (now (numbers .entry)) phase taken «rsp_cons» (now (numbers .exit)) ⌝ }
+{
+    let held = &mut numbers[..];
+    held[PHASE] = phase;
+    held[TAKEN] = taken;
+    held[OWN_RSP_CONS] = rsp_cons as u64;
 }
 
 // Looks at the ack read so far: a size that no ack has is refused at the header, and the reader judges the rest.

@@ -2,21 +2,13 @@
 // is not trusted: the guest's own counts are its own, and an ack that is none ends the exchange.
 mod calls;
 mod collecting;
-mod guests;
+mod setup;
 mod starting;
 
-pub use collecting::event_in_place;
-pub use guests::event;
-pub use guests::set_up;
-pub use guests::start_get_flags;
-pub use guests::start_set_flags;
-pub use guests::start_set_key;
-pub use guests::start_set_mapping;
+pub use collecting::event;
 use messages::HEADER;
-pub use starting::start_get_flags_in_place;
-pub use starting::start_set_flags_in_place;
-pub use starting::start_set_key_in_place;
-pub use starting::start_set_mapping_in_place;
+pub use setup::set_up;
+pub use starting::start;
 
 // The refusal of a request begun while one is outstanding.
 pub const REQUEST_OUTSTANDING: u32 = 13;
@@ -27,25 +19,44 @@ pub const MAX_REQUEST: usize = 1032;
 pub const MAX_ACK_PAYLOAD: usize = 16;
 
 // The phases of a guest: no request is outstanding; one is; an ack was refused, which only a new setup ends.
-pub const IDLE: u32 = 0;
+pub const IDLE: u64 = 0;
 
-pub const OUTSTANDING: u32 = 1;
+pub const OUTSTANDING: u64 = 1;
 
-pub const FAILED: u32 = 2;
+pub const FAILED: u64 = 2;
 
-// The guest's end of a ring: the present request of `length` octets, of which `written` are on the page, with the count
-// of octets written; and what has been read of its ack, with the count of octets read. Both counts are the guest's own.
+// The numbers of a guest stand in one array, as those of an interface do. Their places: the phase; the octets of the request,
+// how many of them are written, and the own req_prod; the octets taken of the ack, and the own rsp_cons.
+pub const PHASE: usize = 0;
+
+pub const LENGTH: usize = 1;
+
+pub const WRITTEN: usize = 2;
+
+pub const OWN_REQ_PROD: usize = 3;
+
+pub const TAKEN: usize = 4;
+
+pub const OWN_RSP_CONS: usize = 5;
+
+pub const NUMBERS: usize = 6;
+
+// The guest's end of a ring: its numbers; the present request, or the last one; and the ack. There is no padding.
 #[repr(C)]
 pub struct Guest {
-    pub phase: u32,
+    pub numbers: [u64; NUMBERS],
     pub request: [u8; MAX_REQUEST],
-    pub length: usize,
-    pub written: usize,
-    pub req_prod: u32,
     pub header: [u8; HEADER],
     pub payload: [u8; MAX_ACK_PAYLOAD],
-    pub taken: u64,
-    pub rsp_cons: u32,
+}
+
+// What a driver asks for: which flags the host supports; these flags of hash types to use; a key; or a mapping. A key and the
+// entries of a mapping are lent beside it.
+pub enum Ask {
+    GetFlags,
+    SetFlags(u64),
+    SetKey,
+    SetMapping,
 }
 
 // Why a call of the guest's end is refused.
@@ -76,10 +87,4 @@ pub enum GuestAnswer {
     // The ack is here: status 0, and the flags that the host supports.
     AckedFlags(u8),
     Refused(Refusal),
-}
-
-// The answer to a call, and the guest that it leaves.
-pub struct GuestHandled {
-    pub answer: GuestAnswer,
-    pub guest: Guest,
 }

@@ -14,7 +14,7 @@ use Rattle.messages.specs.Wire.{fieldSize, message, getFlagsType, setFlagsType,
 use Rattle.messages.specs.Settings.{maxEntries, isPowerOfTwo, isListed, EachBelow, mappingOf}
 use Rattle.messages.specs.Requests.{setMapping, requestOf, entriesIn, allBelow, withFlags, withKey}
 use Rattle.messages.specs.Requests.{withMapping, answered, answeredFlags, carriedBy, carriedMessage}
-use Rattle.messages.specs.declared.Settings.{Settings}
+use Rattle.messages.specs.Settings.{Settings}
 use Rattle.messages.proofs.Powers.{listed-parts}
 use Rattle.messages.proofs.Parts.{carried-message}
 use Rattle.messages.proofs.Statuses.{get-flags-done, set-flags-done, set-key-done, set-mapping-entry, set-mapping-done}

@@ -19,7 +19,7 @@ use Rattle.messages.specs.Wire.{fieldSize, message, getFlagsType, setFlagsType,
 use Rattle.messages.specs.Settings.{isListed, EachBelow, tableOf, mappingOf}
 use Rattle.messages.specs.Requests.{requestOf, allBelow, statusOf, ackIn, ackStatus}
 use Rattle.messages.specs.Requests.{withFlags, withKey, withMapping, answered, answeredFlags, carriedOut, carriedMessage}
-use Rattle.messages.specs.declared.Settings.{Settings}
+use Rattle.messages.specs.Settings.{Settings}
 use Rattle.messages.proofs.Parts.{length-message}
 use Rattle.messages.proofs.Statuses.{status-most}
 use Rattle.messages.proofs.Tables.{all-below-exactly}

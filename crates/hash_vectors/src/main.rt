@@ -1,6 +1,7 @@
-// Runs the cases of the file `cases` and prints a line for each answer. A case's body is the length of its
-// first part, an octet, and then its two parts.
+// Runs the cases of its files, one file after the other, and prints a line for each answer. A case's body is the length
+// of its first part, an octet, and then its two parts.
 use cases::Case;
+use cases::PARTS;
 use cases::case_at;
 use cases::print_cut;
 use cases::wide;
@@ -15,8 +16,13 @@ const HASH_PROGRAM: u8 = 2;
 
 fn main() {
     let mut buffer = io::large_buffer();
-    let n = cases::load(&mut buffer);
-    run(&buffer[..n]);
+    for part in 0..PARTS {
+        let n = cases::load_part(part, &mut buffer);
+        if n == 0 {
+            return;
+        }
+        run(&buffer[..n]);
+    }
 }
 
 fn run(cases: &[u8]) {

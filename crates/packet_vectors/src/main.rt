@@ -1,8 +1,12 @@
-// Runs the cases of the file `cases` and prints a line for each packet: what it is, and where it goes under the
-// settings before it.
+// Runs the cases of its files, one file after the other, and prints a line for each packet: what it is, and where it
+// goes under the settings before it.
+ghost use Prim.Native.Nat.{_≤_};
+ghost use lib.ListN.{length};
 use answer_text::print_steered;
 use cases::Case;
+use cases::PARTS;
 use cases::case_at;
+use cases::keep;
 use cases::print_cut;
 use cases::print_number;
 use cases::print_word;
@@ -19,35 +23,56 @@ const KEY_AT: usize = 1;
 
 const TABLE_AT: usize = 41;
 
+// Octets of the longest settings, with a table of 128 entries.
+const MOST: usize = 169;
+
 fn main() {
     let mut buffer = io::large_buffer();
-    let n = cases::load(&mut buffer);
-    run(&buffer[..n]);
+    let mut settings = [0u8; MOST];
+    let mut kept: usize = 0;
+    for part in 0..PARTS {
+        let n = cases::load_part(part, &mut buffer);
+        if n == 0 {
+            return;
+        }
+        kept = run(&buffer[..n], &mut settings, kept);
+    }
 }
 
-// The settings are kept as the place where they stand.
-fn run(cases: &[u8]) {
-    let mut from: usize = 0;
-    let mut to: usize = 0;
+// Runs the cases of one file. So many octets of the settings are kept from the files before it; answers how many are
+// kept for those behind it.
+fn run(cases: &[u8], settings: &mut [u8], before: usize) -> usize
+    requires { ⌜ before ≤ length (now settings) ⌝ }
+    ensures { λ r. ⌜ r ≤ length (now (settings .exit)) ⌝ }
+{
+    let mut kept = before;
     let mut at: usize = 0;
     while at < cases.len() {
         let case = case_at(cases, at);
         match case {
             Case::Body { start, end } => {
-                if cases[at] == SETTINGS {
-                    from = start;
-                    to = end;
-                } else {
-                    answer(&cases[from..to], &cases[start..end]);
-                }
+                kept = act(settings, kept, cases[at], &cases[start..end]);
                 at = end;
             }
             Case::Cut => {
                 print_cut();
-                return;
+                return kept;
             }
         }
     }
+    kept
+}
+
+// Keeps settings or answers a packet, and answers how many octets of the settings are kept.
+fn act(settings: &mut [u8], kept: usize, kind: u8, body: &[u8]) -> usize
+    requires { ⌜ kept ≤ length (now settings) ⌝ }
+    ensures { λ r. ⌜ r ≤ length (now (settings .exit)) ⌝ }
+{
+    if kind == SETTINGS {
+        return keep(settings, body);
+    }
+    answer(&settings[0..kept], body);
+    kept
 }
 
 // Before the first settings there are none, and a table has an entry.

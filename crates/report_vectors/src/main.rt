@@ -1,8 +1,11 @@
-// Runs the cases of the file `cases` and prints the report of each. A settings file and a capture are kept as the places
-// where they stand among the cases.
-ghost use Rattle.report_vectors.specs.Places.{Keeps};
+// Runs the cases of its files, one file after the other, and prints the report of each. A settings file and a capture are
+// kept for the cases behind them.
+ghost use lib.ListN.{length};
+ghost use Rattle.report_vectors.specs.Keeping.{Fits};
 use cases::Case;
+use cases::PARTS;
 use cases::case_at;
+use cases::keep;
 use cases::print_cut;
 
 // The kinds: a settings file, a capture with its report, every cut of the capture, every cut of the settings, and
@@ -23,74 +26,84 @@ const ROOM: usize = 65600;
 // Octets of a case with zeros: two numbers.
 const LENGTHS: usize = 8;
 
-// Where the settings file and the capture that are kept stand and end.
+// How many octets the settings file and the capture have that are kept.
 pub struct Kept {
-    pub from: usize,
-    pub to: usize,
-    pub first: usize,
-    pub last: usize,
+    pub settings: usize,
+    pub captured: usize,
 }
 
 fn main() {
     let mut buffer = io::large_buffer();
-    let n = cases::load(&mut buffer);
-    run(&buffer[..n]);
+    let mut settings = io::large_buffer();
+    let mut captured = io::large_buffer();
+    let mut kept = Kept {
+        settings: 0,
+        captured: 0,
+    };
+    for part in 0..PARTS {
+        let n = cases::load_part(part, &mut buffer);
+        if n == 0 {
+            return;
+        }
+        kept = run(&buffer[..n], &mut settings, &mut captured, kept);
+    }
 }
 
-fn run(cases: &[u8]) {
-    let mut kept = Kept {
-        from: 0,
-        to: 0,
-        first: 0,
-        last: 0,
-    };
+// Runs the cases of one file, under what is kept from the files before it; answers what is kept for those behind it.
+fn run(cases: &[u8], settings: &mut [u8], captured: &mut [u8], before: Kept) -> Kept
+    requires { ⌜ Fits before (length (now settings)) (length (now captured)) ⌝ }
+    ensures { λ r. ⌜ Fits r (length (now (settings .exit))) (length (now (captured .exit))) ⌝ }
+{
+    let mut kept = before;
     let mut at: usize = 0;
     while at < cases.len() {
         let case = case_at(cases, at);
         match case {
             Case::Body { start, end } => {
-                kept = kept_after(kept, cases[at], start, end);
-                let from = kept.from;
-                let to = kept.to;
-                let first = kept.first;
-                let last = kept.last;
-                answer(
-                    cases[at],
-                    &cases[from..to],
-                    &cases[first..last],
-                    &cases[start..end],
-                );
+                kept = act(settings, captured, kept, cases[at], &cases[start..end]);
                 at = end;
             }
             Case::Cut => {
                 print_cut();
-                return;
+                return kept;
             }
         }
     }
+    kept
 }
 
-// The files kept once a case of this kind has its body from `start` to `end`.
-fn kept_after(kept: Kept, kind: u8, start: usize, end: usize) -> Kept
-    ensures { λ r. ⌜ Keeps kept start end r ⌝ }
+// Keeps the file that a case gives, prints the reports that it asks for, and answers what is kept then.
+fn act(settings: &mut [u8], captured: &mut [u8], before: Kept, kind: u8, body: &[u8]) -> Kept
+    requires { ⌜ Fits before (length (now settings)) (length (now captured)) ⌝ }
+    ensures { λ r. ⌜ Fits r (length (now (settings .exit))) (length (now (captured .exit))) ⌝ }
+{
+    let kept = kept_after(settings, captured, before, kind, body);
+    let n = kept.settings;
+    let k = kept.captured;
+    answer(kind, &settings[0..n], &captured[0..k], body);
+    kept
+}
+
+// Keeps the body of a case of these two kinds, and answers what is kept then.
+fn kept_after(settings: &mut [u8], captured: &mut [u8], before: Kept, kind: u8, body: &[u8]) -> Kept
+    requires { ⌜ Fits before (length (now settings)) (length (now captured)) ⌝ }
+    ensures { λ r. ⌜ Fits r (length (now (settings .exit))) (length (now (captured .exit))) ⌝ }
 {
     if kind == SETTINGS {
+        let n = keep(settings, body);
         return Kept {
-            from: start,
-            to: end,
-            first: kept.first,
-            last: kept.last,
+            settings: n,
+            captured: before.captured,
         };
     }
     if kind == CAPTURE {
+        let n = keep(captured, body);
         return Kept {
-            from: kept.from,
-            to: kept.to,
-            first: start,
-            last: end,
+            settings: before.settings,
+            captured: n,
         };
     }
-    kept
+    before
 }
 
 fn answer(kind: u8, settings: &[u8], captured: &[u8], body: &[u8]) {
@@ -137,18 +150,9 @@ fn stretched(settings: &[u8], captured: &[u8], body: &[u8]) {
     let k = octets::read_u32(body, 4) as usize;
     let mut one = [0u8; ROOM];
     let mut other = [0u8; ROOM];
-    put(&mut one, settings);
-    put(&mut other, captured);
+    keep(&mut one, settings);
+    keep(&mut other, captured);
     print_fronts(&one, n, &other, k);
-}
-
-// Puts a file at the start of the buffer.
-fn put(buffer: &mut [u8], file: &[u8]) {
-    if file.len() > buffer.len() {
-        print_cut();
-        return;
-    }
-    octets::copy(&mut buffer[0..file.len()], file);
 }
 
 // The report of the first octets of two files, so many of each.

@@ -1,14 +1,9 @@
 // The hash and the two-way question.
 ghost use mathlib.Core.Path.{_≡_};
+ghost use Rattle.octets.specs.Outcome.{numberOf, placed, itself};
 ghost use Rattle.toeplitz.specs.Hash.{hashOutcome};
 ghost use Rattle.toeplitz.specs.TwoWay.{twoWayOutcome};
-ghost use Rattle.zwerfen.specs.Answers.{numberOf, placed, itself, meets, bitTold};
-use crate::DONE;
-use toeplitz::HashAnswer;
-use toeplitz::INPUT_TOO_LONG;
-use toeplitz::KEY_LENGTH_WRONG;
-use toeplitz::TYPE_UNKNOWN;
-use toeplitz::TwoWayAnswer;
+ghost use Rattle.by_number.specs.Answers.{meets, bitTold};
 
 // The hash of the input under the key.
 #[no_mangle]
@@ -16,15 +11,7 @@ pub extern "C" fn zwerfen_hash(key: &[u8], input: &[u8], hash: &mut u32) -> u32
     ensures { λ r. ⌜ r ≡ numberOf (hashOutcome (now (key .entry)) (now (input .entry))) ⌝ }
     ensures { λ _. ⌜ now (hash .exit) ≡ placed itself (hashOutcome (now (key .entry)) (now (input .entry))) (now (hash .entry)) ⌝ }
 {
-    let answer = toeplitz::hash(key, input);
-    match answer {
-        HashAnswer::Hash(h) => {
-            *hash = h;
-            DONE
-        }
-        HashAnswer::KeyLength => KEY_LENGTH_WRONG,
-        HashAnswer::InputLength => INPUT_TOO_LONG,
-    }
+    by_number::hash(key, input, hash)
 }
 
 // Whether the two directions of every conversation have one hash under the key, and else the lowest bit that tells.
@@ -39,18 +26,5 @@ pub extern "C" fn zwerfen_two_way(
     ensures { λ _. ⌜ now (meet .exit) ≡ placed meets (twoWayOutcome (now (key .entry)) «hash_type») (now (meet .entry)) ⌝ }
     ensures { λ _. ⌜ now (bit .exit) ≡ placed bitTold (twoWayOutcome (now (key .entry)) «hash_type») (now (bit .entry)) ⌝ }
 {
-    let answer = toeplitz::two_way(key, hash_type);
-    match answer {
-        TwoWayAnswer::Yes => {
-            *meet = 1;
-            DONE
-        }
-        TwoWayAnswer::No(b) => {
-            *meet = 0;
-            *bit = b;
-            DONE
-        }
-        TwoWayAnswer::KeyLength => KEY_LENGTH_WRONG,
-        TwoWayAnswer::HashType => TYPE_UNKNOWN,
-    }
+    by_number::two_way(key, hash_type, meet, bit)
 }

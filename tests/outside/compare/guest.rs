@@ -14,22 +14,23 @@ impl BothGuests {
     /// Puts other own counts into a guest that has just been set up: calls could have brought it there.
     pub fn start_at(&mut self, req_prod: u32, rsp_cons: u32) {
         let guest = self.room.fields_mut();
-        (guest.req_prod, guest.rsp_cons) = (req_prod, rsp_cons);
+        (guest.req_prod, guest.rsp_cons) = (req_prod.into(), rsp_cons.into());
         (self.model.req_prod, self.model.rsp_cons) = (req_prod, rsp_cons);
     }
 }
 
-/// What the rules settle of the library's guest; none if a length in it is outside of its array.
+/// What the rules settle of the library's guest; none if a length in it is outside of its array, or a count has more
+/// than 32 bits.
 fn settled(guest: &library::Guest) -> Option<Guest> {
     let header = &guest.header[..guest.taken.min(8) as usize];
     let payload = guest.payload.get(..guest.taken.saturating_sub(8) as usize)?;
     Some(Guest {
-        phase: guest.phase,
-        request: guest.request.get(..guest.length)?.to_vec(),
-        written: guest.written,
-        req_prod: guest.req_prod,
+        phase: guest.phase.try_into().ok()?,
+        request: guest.request.get(..guest.length as usize)?.to_vec(),
+        written: guest.written as usize,
+        req_prod: guest.req_prod.try_into().ok()?,
         heard: [header, payload].concat(),
-        rsp_cons: guest.rsp_cons,
+        rsp_cons: guest.rsp_cons.try_into().ok()?,
     })
 }
 
@@ -47,7 +48,7 @@ fn fields_of(guest: &Guest) -> Facts {
 fn fields_in(room: &GuestRoom) -> Facts {
     match settled(room.fields()) {
         Some(guest) => fields_of(&guest),
-        None => facts![("guest with a length outside of its array", room.octets())],
+        None => facts![("guest with a length outside of its array, or a count too long", room.octets())],
     }
 }
 

@@ -1,6 +1,7 @@
--- `packet_vectors::run` ends and reads no octet outside: each case's body stands behind its start, and so do the settings
--- kept, wherever they stand.
+-- `packet_vectors::run` ends and reads no octet outside: each case's body stands behind its start. No case keeps more
+-- settings than there is room for.
 -- Assumes nothing.
+use mathlib.Core.Path.{_≡_}
 use Prim.Native.Nat.{_≤_, _-_}
 use native.Mathlib.Omega.{arith}
 use borrow.Author.Needs.{needs}
@@ -11,16 +12,21 @@ use Rattle.packet_vectors.proofs.run.Statement.{statement}
 use Rattle.packet_vectors.proofs.run.Tie as tie
 
 abbrev Inv-loop : tie.InvT-loop
-Inv-loop cases from₀ to₀ at₀ from to at = (from ≤ to) × (to ≤ length cases) × (at ≤ length cases)
+Inv-loop cases settings₀ before kept₀ at₀ settings kept at =
+    (at ≤ length cases) × (length settings ≡ length settings₀) × (kept ≤ length settings)
 
 abbrev μ-loop : tie.MeasureT-loop
-μ-loop cases from₀ to₀ at₀ from to at = length cases - at
+μ-loop cases settings₀ before kept₀ at₀ settings kept at = length cases - at
 
 -- where the case was found whole
 module _ (d : tie.After-case Inv-loop μ-loop) where
-  body : Within (length (d .before .before .before .before .before .before .args .cases .now))
+  body : Within (length (d .before .before .before .before .before .before .before .args .cases .now))
       (d .before .before .before .before .loop .at) (Body (d .case .given .0 .0) (d .case .given .0 .1 .0))
   body = rw (d .case .given .1) at (d .before .before .case-at .ensures)
+
+loop-again : tie.Need-loop-again Inv-loop μ-loop
+loop-again c =
+    (omega (arith, body (c .before .before .before .before .before .before .before)), search needs, search needs)
 
 pub run-spec : {M : Type 1} → statement M
 run-spec =
@@ -32,18 +38,15 @@ run-spec =
     (λ c κs. search needs)
     (λ c. search needs)
     (λ c. search needs)
-    (λ c. search needs)
-    (λ c. search needs)
-    (λ c. search needs)
-    (λ c. omega (arith, body (c .before .before .before .before)))
-    (λ c. omega (arith, body (c .before .before .before .before)))
-    (λ c. omega (arith, body (c .before .before .before .before)))
-    (λ c κs. search needs)
     (λ c. omega (arith, body (c .before .before .before)))
     (λ c. omega (arith, body (c .before .before .before)))
-    (λ c. omega (arith, body (c .before .before .before .before .before .before)))
-    (λ c. omega (arith, body (c .before .before .before .before .before .before)))
+    (λ c. omega (arith, body (c .before .before .before)))
+    (λ c κs. search needs)
+    (λ c. omega (arith, body (c .before .before .before .before .before .before .before)))
+    loop-again
     (λ c. search needs)
     (λ c κs. search needs)
+    (λ c. search needs)
+    (λ c. search needs)
     (λ c. search needs)
     (λ c. search needs))

@@ -7,7 +7,7 @@ use lib.ListN.{length}
 use borrow.Author.Needs.{needs}
 use Rattle.ring.specs.Page.{pageSize, areaSize}
 use Rattle.frontend.specs.Calls.{unreadRequests, unreadAcks}
-use Rattle.frontend.specs.declared.Guest.{Guest}
+use Rattle.frontend.specs.Guest.{GuestState}
 use Rattle.frontend.proofs.Starts.{found-page, found-requests, found-responses, found-failed, found-counts}
 use Rattle.frontend.proofs.calls.find.Statement.{statement}
 use Rattle.frontend.proofs.calls.find.Tie as tie
@@ -23,7 +23,7 @@ module _ (d : tie.After-host-unread) where
   size : length (start .args .page .now) ≡ pageSize
   size = omega (arith, d .before .if1 .left)
 
-  requests : (g : Guest) → g .«req_prod» ≡ start .args .req-prod → d .host-unread .result ≡ unreadRequests g (start .args .page .now)
+  requests : (g : GuestState) → g .«req_prod» ≡ start .args .req-prod → d .host-unread .result ≡ unreadRequests g (start .args .page .now)
   requests g q = rw q (d .host-unread .ensures)
 
 -- once those unread in the response area are known
@@ -34,7 +34,7 @@ module _ (d : tie.After-unread) where
   few : counted .host-unread .result ≤ areaSize
   few = omega (arith, d .before .if2 .left)
 
-  acks : (g : Guest) → g .«rsp_cons» ≡ start counted .args .rsp-cons → d .unread .result ≡ unreadAcks g (start counted .args .page .now)
+  acks : (g : GuestState) → g .«rsp_cons» ≡ start counted .args .rsp-cons → d .unread .result ≡ unreadAcks g (start counted .args .page .now)
   acks g r = rw r (d .unread .ensures)
 
 returns-2 : tie.Need-returns-2

@@ -1,76 +1,112 @@
 -- `frontend::collecting::collect` meets its contract: what it leaves in each case of what is seen of the ack is what the
 -- definition says.
 -- Assumes nothing.
-use mathlib.Core.Path.{_≡_, refl, _∙_}
+use mathlib.Core.Path.{_≡_, refl, ap, _∙_}
+use mathlib.Core.List.{List}
+use Prim.Native.Nat.{ℕ, _+_}
+use lib.ListN.{getD}
 use borrow.Author.Needs.{needs}
 use Rattle.messages.specs.Wire.{typeIn}
-use Rattle.ring.specs.Reading.{incomingOf}
-use Rattle.ring.specs.declared.Incoming.{Incoming}
-use Rattle.frontend.specs.Guest.{incoming}
+use Rattle.ring.specs.Page.{responsesAt}
+use Rattle.ring.specs.Reading.{Incoming, incomingOf, receivedFrom}
+use Rattle.frontend.specs.Guest.{GuestState, guestIn, incoming}
 use Rattle.frontend.specs.Calls.{concluded, readOn}
 use Rattle.frontend.specs.Inner.{sightOf}
-use Rattle.frontend.specs.declared.Guest.{Guest}
 use Rattle.frontend.specs.declared.GuestAnswer.the-variants.{AckedStatus, AckedFlags}
 use Rattle.frontend.specs.declared.collecting.Sight.{Sight}
+use Rattle.frontend.proofs.Stored.{stored-kept}
 use Rattle.frontend.proofs.Collects.{reads-on, concludes-part, concludes-accepted, concludes-refused}
 use Rattle.frontend.proofs.collecting.collect.Statement.{statement}
 use Rattle.frontend.proofs.collecting.collect.Tie as tie
 
 -- once the ack has been looked at
 module _ (d : tie.After-look) where
+  abbrev reading : tie.After-receive
+  reading = d .before .before .before .before .before
+
   abbrev start : tie.Start
-  start = d .before .before .before .before .before .before .before .before .before .before .before .before
+  start = reading .before .before .before .before .before .before .before .before .before
 
-  -- the reading side before, and once octets have been read
-  abbrev before : Incoming
-  before = let a = start .args in incomingOf (a .header .now) (a .payload .now) (a .taken .now) (a .rsp-cons .now)
+  abbrev header : List ℕ
+  header = reading .receive .last .1 .1 .0
 
+  abbrev payload : List ℕ
+  payload = reading .receive .last .1 .1 .1 .0
+
+  -- the reading side once octets have been read
   abbrev side : Incoming
   side =
-      let l = d .before .before .before .before .receive .last in
-      incomingOf (l .1 .1 .0) (l .1 .1 .1 .0) (l .1 .1 .1 .1 .0) (l .1 .1 .1 .1 .1 .0)
+      incomingOf header payload (getD (start .args .numbers .now) 4 0 + reading .receive .result) (d .before .before .before .wrapping-add-u32 .result)
 
-  -- what is concluded by what is seen is what reading on gives
-  reads : (g : Guest) → typeIn (g .request) ≡ start .args .kind → incoming g ≡ before → (s : Sight) → d .look .result ≡ s
-      → concluded (sightOf s) g side (start .args .page .now) ≡ readOn g (start .args .page .now) (start .args .unread)
-  reads g type from s e =
-      reads-on g _ _ _ side before _ type from (d .before .before .before .before .receive .ensures) (rw e at (d .look .ensures))
+  module _ (request : List ℕ) where
+    abbrev guest : GuestState
+    guest = guestIn (start .args .numbers .now) request (start .args .header .now) (start .args .payload .now)
+
+    -- what is concluded by what is seen is what reading on gives
+    reads : typeIn request ≡ start .args .kind → (s : Sight) → d .look .result ≡ s
+        → concluded (sightOf s) guest side (start .args .page .now) ≡ readOn guest (start .args .page .now) (start .args .unread)
+    reads type s e =
+        let counted : side ≡ receivedFrom responsesAt (start .args .page .now) (incoming guest) (start .args .unread) =
+        ap (λ (c : ℕ). incomingOf header payload (getD (start .args .numbers .now) 4 0 + reading .receive .result) c)
+        (d .before .before .before .wrapping-add-u32 .ensures) ∙ reading .receive .ensures .0 in
+        reads-on guest _ _ _ side _ type counted (rw e at (d .look .ensures))
 
 returns : tie.Need-returns
-returns c g type own phase from =
-    let d = c .before .before .before .before .before .before in
-    concludes-part g (side d) _ _ _ own (c .before .before .write-counts .ensures) _ phase
-    ∙ reads d g type from _ (c .before .before .before .before .enum-told .given .1)
+returns c request type =
+    let keep = c .before .before .before .before in
+    let d = keep .before .before .before .before in
+    concludes-part (guest d request) _ (side d) _ _ (c .before .before .write-counts .ensures)
+    (stored-kept _ request (header d) (payload d) _ _ _ _ (keep .keep .ensures))
+    ∙ reads d request type _ (keep .before .before .enum-told .given .1)
 
 returns-2 : tie.Need-returns-2
-returns-2 c g type own phase from =
-    let d = c .before .before in
-    concludes-refused g (side d) _ (before d) from ∙ reads d g type from _ (c .enum-told2 .given .1)
+returns-2 c request type =
+    let d = c .before .before .before .before in
+    concludes-refused (guest d request) _ (side d) _ (stored-kept _ request (header d) (payload d) _ _ _ _ (c .keep2 .ensures))
+    ∙ reads d request type _ (c .before .before .enum-told2 .given .1)
 
 returns-3 : tie.Need-returns-3
-returns-3 c g type own phase from =
-    let d = c .before .before .before .before .before .before .before in
-    concludes-accepted g (side d) _ _ _ own (c .before .before .write-counts2 .ensures) _ (AckedStatus _) refl
-    ∙ reads d g type from _ (c .before .before .before .before .before .sight .given .1)
+returns-3 c request type =
+    let keep = c .before .before .before .before in
+    let d = keep .before .before .before .before .before in
+    concludes-accepted (guest d request) _ (side d) _ _ (c .before .before .write-counts2 .ensures) _ (AckedStatus _) refl
+    (stored-kept _ request (header d) (payload d) _ _ _ _ (keep .keep3 .ensures))
+    ∙ reads d request type _ (keep .before .before .before .sight .given .1)
 
 returns-4 : tie.Need-returns-4
-returns-4 c g type own phase from =
-    let d = c .before .before .before .before .before .before .before in
-    concludes-accepted g (side d) _ _ _ own (c .before .before .write-counts3 .ensures) _ (AckedFlags _) refl
-    ∙ reads d g type from _ (c .before .before .before .before .before .sight2 .given .1)
+returns-4 c request type =
+    let keep = c .before .before .before .before in
+    let d = keep .before .before .before .before .before in
+    concludes-accepted (guest d request) _ (side d) _ _ (c .before .before .write-counts3 .ensures) _ (AckedFlags _) refl
+    (stored-kept _ request (header d) (payload d) _ _ _ _ (keep .keep4 .ensures))
+    ∙ reads d request type _ (keep .before .before .before .sight2 .given .1)
 
 pub collect-spec : {M : Type 1} → statement M
 collect-spec =
     tie.close
     (tie.spec
+    (λ c. search needs)
+    (λ c. search needs)
+    (λ c. search needs)
+    (λ c. search needs)
+    (λ c. search needs)
+    (λ c. search needs)
+    (λ c κs. search needs)
+    (λ c. search needs)
+    (λ c. search needs)
+    (λ c. search needs)
+    (λ c κs. search needs)
+    (λ c κs. search needs)
+    (λ c. search needs)
     (λ c κs. search needs)
     (λ c κs. search needs)
     (λ c. search needs)
     (λ c κs. search needs)
     (λ c. search needs)
-    (λ c. search needs)
+    (λ c κs. search needs)
     (λ c κs. search needs)
     (λ c. search needs)
+    (λ c κs. search needs)
     (λ c κs. search needs)
     (λ c. search needs)
     returns

@@ -8,7 +8,7 @@ use native.Mathlib.Omega.{arith}
 use borrow.Author.Needs.{needs}
 use borrow.Author.Tests.{not-true, not-false}
 use Rattle.messages.specs.Wire.{headerSize, sizeIn}
-use Rattle.ring.specs.declared.Message.{Message}
+use Rattle.ring.specs.Reading.{Message}
 use Rattle.frontend.specs.Calls.{sizeWrong}
 use Rattle.frontend.proofs.Collects.{sees-no-header, sees-wrong, size-short, size-long, sees-part, sees-whole}
 use Rattle.frontend.proofs.collecting.look.Statement.{statement}

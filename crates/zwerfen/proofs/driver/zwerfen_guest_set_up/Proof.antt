@@ -1,16 +1,16 @@
--- `zwerfen::zwerfen_guest_set_up` meets its contract: the guest is lent in parts to `set_up_on_parts`
--- (`Exports.antt`). All that the proof knows of that function is that it meets its contract.
+-- `zwerfen::zwerfen_guest_set_up` meets its contract: the guest is lent in parts to `frontend::set_up` (`Exports.antt` of the
+-- crate `lending`). All that the proof knows of that function is that it meets its contract.
 -- Assumes nothing.
 use mathlib.Core.Path.{refl}
 use mir.Syntax.{tyUnit}
 use contract.Running.{givenOf}
-use Rattle.frontend.proofs.Guest as T
-use Rattle.zwerfen.proofs.Spelt.{a-unit}
-use Rattle.zwerfen.proofs.Exports.{tail, passing, exported, concluded}
-use Rattle.zwerfen.proofs.GuestParts.{guestParts, parts, guestOpens}
-use Rattle.zwerfen.proofs.driver.set_up_on_parts as on-parts
-use Rattle.zwerfen.proofs.driver.set_up_on_parts.Symbol as on-parts-def
-use Rattle.zwerfen.proofs.driver.set_up_on_parts.Met as on-parts-thm
+use Rattle.frontend.proofs.set_up as on-parts
+use Rattle.frontend.proofs.set_up.Symbol as on-parts-def
+use Rattle.frontend.proofs.set_up.Met as on-parts-thm
+use Rattle.lending.proofs.Spelt.{a-unit}
+use Rattle.lending.proofs.Structs.{rowBy, partsOf, valuesOf, opens}
+use Rattle.lending.proofs.Exports.{tail, passing, exported, concluded}
+use Rattle.zwerfen.proofs.Parts.{guest}
 use Rattle.zwerfen.proofs.driver.zwerfen_guest_set_up as f
 use Rattle.zwerfen.proofs.driver.zwerfen_guest_set_up.Key.{name as #f}
 use Rattle.zwerfen.proofs.driver.zwerfen_guest_set_up.Statement as stated
@@ -20,9 +20,10 @@ pub zwerfen-guest-set-up-spec : {M : Type 1} → stated.statement M
 unfolding code.routine
 zwerfen-guest-set-up-spec 𝓤 H 𝓜 𝓖 𝓡 =
     concluded 𝓤 H 𝓜 𝓖 𝓡 f.signature on-parts.signature (f.spec 𝓤 H) (on-parts.spec 𝓤 H) code.env #f code.function (code.unfolded 𝓤 H 𝓜 𝓡)
-    on-parts-def.name on-parts-def.routine code.calls-zwerfen·driver·set-up-on-parts (on-parts-thm.met 𝓤 H 𝓜 𝓖 𝓡) (λ 𝓣 known.
-    exported T.the-row guestParts 0 (tail (f.signature .params)) (f.ended .kept .1) (f.signature .result) 𝓤 H (𝓖 .A) (givenOf 𝓤 H 𝓜 𝓖) 𝓣
-    code.function on-parts-def.name (λ κs. tt)
-    (guestOpens 𝓤 H (𝓖 .A) (givenOf 𝓤 H 𝓜 𝓖)) (f.clauses 𝓤 H (𝓖 .A) (𝓜 .mem) (𝓡 .run))
+    on-parts-def.name on-parts-def.routine code.calls-frontend·set-up (on-parts-thm.met 𝓤 H 𝓜 𝓖 𝓡) (λ 𝓣 known.
+    exported (rowBy guest) (partsOf guest) 0 (tail (f.signature .params)) (f.ended .kept .1) (f.signature .result)
+    𝓤 H (𝓖 .A) (givenOf 𝓤 H 𝓜 𝓖) 𝓣 code.function on-parts-def.name
+    (λ κs. tt)
+    (opens guest 𝓤 H (𝓖 .A) (givenOf 𝓤 H 𝓜 𝓖)) (f.clauses 𝓤 H (𝓖 .A) (𝓜 .mem) (𝓡 .run))
     tyUnit (λ κs. a-unit) (λ κs. refl) (λ κs. refl) (λ κs x b o bs. (refl, refl))
-    (λ κs qs ref x us g ν γs. known (passing guestParts parts κs qs ref x us ν γs, g)))
+    (λ κs qs ref x us g ν γs. known (passing (partsOf guest) (valuesOf guest) κs qs ref x us ν γs, g)))

@@ -1,21 +1,20 @@
--- `zwerfen::zwerfen_steer` meets its contract: four parts of the interface are lent to `steer_on_parts`, with the packet and the
--- three places (`Exports.antt`). All that the proof knows of that function is that it meets its contract.
+-- `zwerfen::zwerfen_steer` meets its contract: three parts of the interface are lent to `by_number::steer`, with the packet and
+-- the three places (`Exports.antt` of the crate `lending`). All that the proof knows of that function is that it meets its contract.
 -- Assumes nothing.
-use mathlib.Core.Path.{_≡_, refl}
-use mathlib.Core.Bool.{true}
+use mathlib.Core.Path.{refl}
 use mir.Syntax.{named, tyInt, w32}
 use contract.Running.{givenOf}
 use denote.Builtin.{u8, u32}
 use denote.Triple.Entry.{onEntry}
-use Rattle.messages.specs.Settings.{isListed}
-use Rattle.backend.specs.States.{Good}
-use Rattle.backend.proofs.Interface as T
-use Rattle.zwerfen.proofs.Spelt.{a-number, a-mut, a-shr-slice}
-use Rattle.zwerfen.proofs.Exports.{tail, passing, asking, looked, concluded}
-use Rattle.zwerfen.proofs.InterfaceLooks.{steerParts, steerPartsOf, steerLooks}
-use Rattle.zwerfen.proofs.host.steer_on_parts as on-parts
-use Rattle.zwerfen.proofs.host.steer_on_parts.Symbol as on-parts-def
-use Rattle.zwerfen.proofs.host.steer_on_parts.Met as on-parts-thm
+use Rattle.messages.specs.Settings.{Good as GoodSettings}
+use Rattle.backend.specs.States.{Good, stateOf}
+use Rattle.by_number.proofs.steer as on-parts
+use Rattle.by_number.proofs.steer.Symbol as on-parts-def
+use Rattle.by_number.proofs.steer.Met as on-parts-thm
+use Rattle.lending.proofs.Spelt.{a-number, a-mut, a-shr-slice}
+use Rattle.lending.proofs.Structs.{rowBy, partsOf, valuesOf, sift, sifted, looks}
+use Rattle.lending.proofs.Exports.{tail, passing, asking, looked, concluded}
+use Rattle.zwerfen.proofs.Parts.{interface, steering}
 use Rattle.zwerfen.proofs.host.zwerfen_steer as f
 use Rattle.zwerfen.proofs.host.zwerfen_steer.Key.{name as #f}
 use Rattle.zwerfen.proofs.host.zwerfen_steer.Statement as stated
@@ -25,14 +24,14 @@ pub zwerfen-steer-spec : {M : Type 1} → stated.statement M
 unfolding code.routine
 zwerfen-steer-spec 𝓤 H 𝓜 𝓖 𝓡 =
     concluded 𝓤 H 𝓜 𝓖 𝓡 f.signature on-parts.signature (f.spec 𝓤 H) (on-parts.spec 𝓤 H) code.env #f code.function (code.unfolded 𝓤 H 𝓜 𝓡)
-    on-parts-def.name on-parts-def.routine code.calls-zwerfen·host·steer-on-parts (on-parts-thm.met 𝓤 H 𝓜 𝓖 𝓡) (λ 𝓣 known.
-    looked T.the-row steerParts 4 (tail (f.signature .params)) (f.ended .kept .1) (f.signature .result) 𝓤 H (𝓖 .A) (givenOf 𝓤 H 𝓜 𝓖) 𝓣
-    code.function on-parts-def.name (λ κs.
+    on-parts-def.name on-parts-def.routine code.calls-by-number·steer (on-parts-thm.met 𝓤 H 𝓜 𝓖 𝓡) (λ 𝓣 known.
+    looked (rowBy interface) (sift steering (partsOf interface)) 4 (tail (f.signature .params)) (f.ended .kept .1) (f.signature .result)
+    𝓤 H (𝓖 .A) (givenOf 𝓤 H 𝓜 𝓖) 𝓣 code.function on-parts-def.name (λ κs.
     let κt = κs .1 .1 in
     (a-shr-slice (named 1) (κs .1 .0) u8, (a-mut (named 2) (κt .0) u32, (a-mut (named 3) (κt .1 .0) u32, (a-mut (named 4) (κt .1 .1 .0) u32, tt)))))
-    (steerLooks 𝓤 H (𝓖 .A) (givenOf 𝓤 H 𝓜 𝓖)) (f.clauses 𝓤 H (𝓖 .A) (𝓜 .mem) (𝓡 .run))
+    (looks interface 𝓤 H (𝓖 .A) (givenOf 𝓤 H 𝓜 𝓖) steering) (f.clauses 𝓤 H (𝓖 .A) (𝓜 .mem) (𝓡 .run))
     (tyInt w32) (λ κs. a-number w32) (λ κs. refl) (λ κs. refl) (λ κs x b o bs. (refl, refl))
     (λ κs qs ref x us g ν γs.
-    let p = passing steerParts steerPartsOf κs qs ref x us ν γs in
-    asking 𝓤 (Good (ref .now)) (isListed (ref .now .settings .mapping .count) ≡ true) (onEntry 𝓤 H (𝓖 .A) on-parts.signature (p .0) (p .1) (p .3) (p .4))
-    (λ good. good .settings .mapping .listed) (known (p, g))))
+    let p = passing (sift steering (partsOf interface)) (λ i. sifted steering (partsOf interface) (valuesOf interface i)) κs qs ref x us ν γs in
+    asking 𝓤 (Good (stateOf (ref .now))) (GoodSettings (stateOf (ref .now) .settings)) (onEntry 𝓤 H (𝓖 .A) on-parts.signature (p .0) (p .1) (p .3) (p .4))
+    (λ good. good .settings) (known (p, g))))

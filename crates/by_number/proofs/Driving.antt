@@ -1,0 +1,18 @@
+-- What a call of the guest's end tells by its number, once its answer is known.
+-- Assumes nothing.
+use mathlib.Core.Path.{_≡_, ap, _∙_}
+use mathlib.Core.List.{List}
+use Prim.Native.Nat.{ℕ}
+use Rattle.frontend.specs.Guest.{GuestState, toldNumber, toldOf}
+use Rattle.frontend.specs.Calls.{After, left}
+use Rattle.frontend.specs.declared.GuestAnswer.{GuestAnswer}
+use Rattle.by_number.specs.Answers.{Leaves}
+
+pub tells : (a : After) (answer : GuestAnswer) (r : ℕ) (g : GuestState) (octets : List ℕ) → left answer g octets ≡ a
+    → r ≡ toldNumber (toldOf answer) → Leaves a r g octets
+tells a answer r g octets e n =
+    record {
+      answer = n ∙ ap (λ (x : After). toldNumber (x .answer)) e;
+      state = ap (λ (x : After). x .state) e;
+      octets = ap (λ (x : After). x .page) e;
+    }

@@ -1,0 +1,13 @@
+-- What an event answered and left, as an exported call tells it.
+-- Assumes nothing.
+use mathlib.Core.Path.{_≡_}
+use mathlib.Core.List.{List}
+use Prim.Native.Nat.{ℕ}
+use Rattle.backend.specs.Events.{After, answerNumber, left as leftBy}
+use Rattle.backend.specs.States.{HostState}
+use Rattle.backend.specs.declared.EventAnswer.{EventAnswer}
+use Rattle.by_number.specs.Answers.{left}
+
+pub numbered : (k : ℕ) (r : EventAnswer) (s : HostState) (page : List ℕ) {a : After} → k ≡ answerNumber r → leftBy r s page ≡ a
+    → left k s page ≡ a
+numbered k r s page e same = rw e same

@@ -1,0 +1,5 @@
+-- The laws by which answers are told, and what a reader wants of them.
+pub mod Driving
+pub mod Events
+pub mod Told
+pub mod Theorems

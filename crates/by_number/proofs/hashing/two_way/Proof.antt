@@ -1,0 +1,57 @@
+-- `by_number::two_way` meets its contract: each case of the answer is told by its number and values.
+-- Assumes nothing.
+use mathlib.Core.Path.{_≡_, sym, ap, _∙_}
+use Prim.Native.Nat.{ℕ}
+use borrow.Author.Needs.{needs}
+use Rattle.octets.specs.Outcome.{Outcome, numberOf, placed}
+use Rattle.toeplitz.specs.TwoWay.{Verdict, twoWayOutcome, twoWayOutcomeOf}
+use Rattle.toeplitz.specs.declared.TwoWayAnswer.{TwoWayAnswer}
+use Rattle.by_number.specs.Answers.{meets, bitTold}
+use Rattle.by_number.proofs.hashing.two_way.Statement.{statement}
+use Rattle.by_number.proofs.hashing.two_way.Tie as tie
+
+-- once the two-way call has answered a
+module _ (d : tie.After-two-way) (a : TwoWayAnswer) (e : d .two-way .result ≡ a) where
+  abbrev start : tie.Start
+  start = d .before .before
+
+  abbrev outcome : Outcome Verdict
+  outcome = twoWayOutcome (start .args .key .now) (start .args .hash-type)
+
+  abbrev meet : ℕ
+  meet = start .args .meet .now
+
+  abbrev bit : ℕ
+  bit = start .args .bit .now
+
+  told : (numberOf (twoWayOutcomeOf a) ≡ numberOf outcome) × ((placed meets (twoWayOutcomeOf a) meet ≡ placed meets outcome meet)
+      × (placed bitTold (twoWayOutcomeOf a) bit ≡ placed bitTold outcome bit))
+  told =
+      let same : twoWayOutcomeOf a ≡ outcome = ap twoWayOutcomeOf (sym e) ∙ d .two-way .ensures in
+      (ap numberOf same, (ap (λ (o : Outcome Verdict). placed meets o meet) same, ap (λ (o : Outcome Verdict). placed bitTold o bit) same))
+
+returns : tie.Need-returns
+returns c = told (c .before .before) _ (c .enum-told .given .1)
+
+returns-2 : tie.Need-returns-2
+returns-2 c = told (c .before .before .before) _ (c .before .answer .given .1)
+
+returns-3 : tie.Need-returns-3
+returns-3 c = told (c .before .before) _ (c .enum-told2 .given .1)
+
+returns-4 : tie.Need-returns-4
+returns-4 c = told (c .before .before) _ (c .enum-told3 .given .1)
+
+pub two-way-spec : {M : Type 1} → statement M
+two-way-spec =
+    tie.close
+    (tie.spec
+    (λ c κs. search needs)
+    (λ c. search needs)
+    (λ c. search needs)
+    (λ c. search needs)
+    (λ c. search needs)
+    returns
+    returns-2
+    returns-3
+    returns-4)

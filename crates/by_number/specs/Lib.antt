@@ -1,0 +1,2 @@
+-- The definitions that the contracts of `by_number` cite.
+pub mod Answers

@@ -1,0 +1,1 @@
+// The law by which an exported function that lends the parts of a struct to one call is proved: theorems alone.

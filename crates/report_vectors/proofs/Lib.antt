@@ -1,2 +1,0 @@
--- The laws of `report_vectors`.
-pub mod Insides

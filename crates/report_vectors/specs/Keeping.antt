@@ -1,0 +1,8 @@
+-- The files that are kept.
+-- Assumes nothing.
+use Prim.Native.Nat.{ℕ, _≤_}
+use Rattle.report_vectors.specs.declared.Kept.{Kept}
+
+-- they fit buffers of n and of m octets
+abbrev pub Fits : Kept → ℕ → ℕ → Type 0
+Fits k n m = (k .settings ≤ n) × (k .captured ≤ m)

@@ -1,2 +1,0 @@
--- The definitions that the contracts of `zwerfen` cite.
-pub mod Answers
