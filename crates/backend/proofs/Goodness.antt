@@ -48,6 +48,11 @@ module _ (s : HostState) (page : List ℕ) (n : ℕ) (good : Good s) where
   unfolding readIn
   read-settings = refl
 
+  -- the own counts stay below 2 ^ 32
+  pub read-counts : (readIn s page n .incoming .cons < 2 ^ 32) × (readIn s page n .outgoing .prod < 2 ^ 32)
+  unfolding readIn receivedFrom
+  read-counts = (omega arith, good .outgoing .count)
+
   pub good-read : owes s ≡ false → whole (readIn s page n .incoming .message) ≡ false → Good (readIn s page n)
   unfolding readIn
   good-read idle waits =

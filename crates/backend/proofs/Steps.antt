@@ -52,17 +52,22 @@ pub proceeds-owing : (s : HostState) (page : List ℕ) (n room : ℕ) → owes s
 unfolding proceeded
 proceeds-owing s page n room owing = rw owing refl
 
--- no ack owed, and octets read: the message is whole, or not
-module _ (s t : HostState) (page : List ℕ) (n room : ℕ) (idle : owes s ≡ false) (read : t ≡ readIn s page n) where
-  pub proceeds-whole : (u : HostState) → whole (t .incoming .message) ≡ true → u ≡ carriedOver t
-      → responded u page room ≡ proceeded s page n room
-  unfolding proceeded afterRead
-  proceeds-whole u w carried = rw (idle, ← read, w, carried) refl
+-- no ack owed: octets are read
+pub proceeds-idle : (s t : HostState) (page : List ℕ) (n room : ℕ) → owes s ≡ false → t ≡ readIn s page n
+    → afterRead t page room ≡ proceeded s page n room
+unfolding proceeded
+proceeds-idle s t page n room idle read = rw (idle, ← read) refl
 
-  pub proceeds-part : (octets : List ℕ) → whole (t .incoming .message) ≡ false
-      → octets ≡ counted page (t .incoming .cons) (t .outgoing .prod) → left Waiting t octets ≡ proceeded s page n room
-  unfolding proceeded afterRead
-  proceeds-part octets w q = rw (idle, ← read, w, q) refl
+-- once they have been read, the message is whole, or not
+module _ (t : HostState) (page : List ℕ) (room : ℕ) where
+  pub concludes-whole : (u : HostState) → whole (t .incoming .message) ≡ true → u ≡ carriedOver t → responded u page room ≡ afterRead t page room
+  unfolding afterRead
+  concludes-whole u w carried = rw (w, carried) refl
+
+  pub concludes-part : (octets : List ℕ) → whole (t .incoming .message) ≡ false → octets ≡ counted page (t .incoming .cons) (t .outgoing .prod)
+      → left Waiting t octets ≡ afterRead t page room
+  unfolding afterRead
+  concludes-part octets w q = rw (w, q) refl
 
 -- an event that is refused: the page is wrong, or the one count, or the other
 module _ (s : HostState) (page : List ℕ) where

@@ -11,7 +11,7 @@ ghost use Rattle.ring.specs.Page.{pageSize, areaSize};
 ghost use Rattle.ring.specs.Reading.{whole};
 ghost use Rattle.ring.specs.Writing.{GoodOutgoing};
 ghost use Rattle.backend.specs.States.{Good, settingsIn, incomingIn, outgoingIn, interfaceIn};
-ghost use Rattle.backend.specs.Events.{left, carriedOver, eventOf};
+ghost use Rattle.backend.specs.Events.{left, carriedOver, afterRead, proceeded, eventOf};
 ghost use Rattle.backend.specs.Inner.{Responds, Reads};
 use crate::ACK_LENGTH;
 use crate::ACK_WRITTEN;
@@ -68,13 +68,64 @@ pub fn event<'a>(
     if waiting > AREA {
         return EventAnswer::ResponseCount;
     }
+    proceed(
+        numbers,
+        header,
+        payload,
+        ack,
+        key,
+        entries,
+        page,
+        unread,
+        AREA - waiting,
+    )
+}
+
+// An event with good counts: ack octets that are owed go first, into `room` octets, and then nothing is read.
+fn proceed(
+    numbers: &mut [u64; NUMBERS],
+    header: &mut [u8; HEADER],
+    payload: &mut [u8; MAX_PAYLOAD],
+    ack: &mut [u8; MAX_ACK],
+    key: &mut [u8; KEY_LENGTH],
+    entries: &mut [u8; MAX_ENTRIES],
+    page: &mut [u8],
+    unread: u32,
+    room: u32,
+) -> EventAnswer
+    requires { ⌜ Good (interfaceIn (now numbers) (now header) (now payload) (now ack) (now key) (now entries)) ⌝ }
+    requires { ⌜ (length (now page) ≡ pageSize) × (unread ≤ areaSize) × (room ≤ areaSize) ⌝ }
+    ensures { λ r. ⌜ left r (interfaceIn (now (numbers .exit)) (now (header .exit)) (now (payload .exit)) (now (ack .exit)) (now (key .exit)) (now (entries .exit))) (now (page .exit))
+        ≡ proceeded (interfaceIn (now (numbers .entry)) (now (header .entry)) (now (payload .entry)) (now (ack .entry)) (now (key .entry)) (now (entries .entry))) (now (page .entry)) unread room ⌝ }
+{
     if numbers[ACK_WRITTEN] < numbers[ACK_LENGTH] {
-        return respond(numbers, ack, AREA - waiting, page);
+        return respond(numbers, ack, room, page);
     }
     read_request(&page[..], numbers, header, payload, unread);
+    conclude(numbers, header, payload, ack, key, entries, page, room)
+}
+
+// Once the octets there are have been read: a request that is whole is carried out, and as much of its ack written as fits.
+fn conclude(
+    numbers: &mut [u64; NUMBERS],
+    header: &[u8; HEADER],
+    payload: &[u8; MAX_PAYLOAD],
+    ack: &mut [u8; MAX_ACK],
+    key: &mut [u8; KEY_LENGTH],
+    entries: &mut [u8; MAX_ENTRIES],
+    page: &mut [u8],
+    room: u32,
+) -> EventAnswer
+    requires { ⌜ GoodSettings (settingsIn (now numbers) (now key) (now entries)) ⌝ }
+    requires { ⌜ Good (carriedOver (interfaceIn (now numbers) (now header) (now payload) (now ack) (now key) (now entries))) ⌝ }
+    requires { ⌜ (length (now page) ≡ pageSize) × (room ≤ areaSize) × (getD (now numbers) 4 0 < 2 ^ 32) × (getD (now numbers) 7 0 < 2 ^ 32) ⌝ }
+    ensures { λ r. ⌜ left r (interfaceIn (now (numbers .exit)) (now (header .entry)) (now (payload .entry)) (now (ack .exit)) (now (key .exit))
+        (now (entries .exit))) (now (page .exit))
+        ≡ afterRead (interfaceIn (now (numbers .entry)) (now (header .entry)) (now (payload .entry)) (now (ack .entry)) (now (key .entry)) (now (entries .entry))) (now (page .entry)) room ⌝ }
+{
     if ring::is_whole(header, numbers[TAKEN]) {
         carry_over(numbers, header, payload, ack, key, entries);
-        return respond(numbers, ack, AREA - waiting, page);
+        return respond(numbers, ack, room, page);
     }
     ring::write_counts(
         page,
