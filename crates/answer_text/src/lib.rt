@@ -6,21 +6,17 @@ use cases::print_digest;
 use cases::print_hex;
 use cases::print_number;
 use cases::print_word;
-pub use host::host_event;
-pub use host::recounted;
-pub use host::set_up_host;
-use messages::Settings;
+pub use host::HostCase;
+pub use host::answer_host;
+pub use host::set_up_first;
 use steering::Steered;
 
 // The end of a line: the settings but for the queue count, which never changes.
-pub fn print_settings(settings: Settings) {
-    let key = settings.key;
-    let mapping = settings.mapping;
-    let entries = mapping.entries;
-    print_number(b" flags ", settings.flags as u64);
-    print_number(b" entries ", mapping.count as u64);
-    print_digest(b" key ", &key);
-    print_digest(b" table ", &entries);
+pub fn print_settings(flags: u64, count: u64, key: &[u8], entries: &[u8]) {
+    print_number(b" flags ", flags);
+    print_number(b" entries ", count);
+    print_digest(b" key ", key);
+    print_digest(b" table ", entries);
     print_word(b"\n");
 }
 

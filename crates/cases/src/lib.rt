@@ -1,5 +1,5 @@
-// The file `cases` that the test programs run: cases one after the other. A case is its kind, an octet, the
-// length of its body, two octets, and the body.
+// The files that the test programs run, `cases0`, `cases1` and so on: cases one after the other, none of them in two
+// files. A case is its kind, an octet, the length of its body, two octets, and the body.
 ghost use Prim.Native.Nat.{_+_, _≤_, _<_};
 ghost use lib.ListN.{length};
 ghost use Rattle.io.specs.Counts.{Counts};
@@ -7,6 +7,7 @@ ghost use Rattle.cases.specs.Cases.{Within};
 
 mod buffer;
 mod entries;
+mod keeping;
 mod print;
 
 pub use buffer::BUFFER;
@@ -15,6 +16,7 @@ pub use buffer::fill;
 pub use buffer::patch;
 pub use entries::MAX_GIVEN;
 pub use entries::entries_in;
+pub use keeping::keep;
 pub use print::print_cut;
 pub use print::print_digest;
 pub use print::print_hex;
@@ -30,11 +32,19 @@ pub enum Case {
 // Octets before the body.
 const HEAD: usize = 3;
 
-// Reads the file into the buffer, and answers how many octets it has. No file counts as an empty one.
-pub fn load(buffer: &mut [u8]) -> usize
+// The most files of a program.
+pub const PARTS: u8 = 10;
+
+// Reads the file with this number behind its name into the buffer, and answers how many octets it has. No file counts as an
+// empty one: a program reads one after the other, until one is empty.
+pub fn load_part(part: u8, buffer: &mut [u8]) -> usize
     ensures { λ r. ⌜ Counts r (now (buffer .exit)) ⌝ }
 {
-    files::read(b"cases", buffer)
+    if part >= PARTS {
+        return 0;
+    }
+    let name = [b'c', b'a', b's', b'e', b's', b'0' + part];
+    files::read(&name, buffer)
 }
 
 // The case that begins at `at`.
@@ -55,6 +65,41 @@ pub fn case_at(cases: &[u8], at: usize) -> Case
     Case::Body {
         start,
         end: start + n,
+    }
+}
+
+// A case with its kind, and where its body stands and ends.
+pub struct Taken {
+    pub kind: u8,
+    pub start: usize,
+    pub end: usize,
+}
+
+// What no program has for a kind.
+const NO_KIND: u8 = 255;
+
+// The case that begins at `at`, so that the cases behind it begin at its end. One that is cut short is told, and has no kind
+// and no body: nothing stands behind it.
+pub fn take_case(cases: &[u8], at: usize) -> Taken
+    requires { ⌜ at < length (now cases) ⌝ }
+    ensures { λ r. ⌜ (at < r .end) × (r .start ≤ r .end) × (r .end ≤ length (now (cases .entry))) ⌝ }
+{
+    let case = case_at(cases, at);
+    match case {
+        Case::Body { start, end } => Taken {
+            kind: cases[at],
+            start,
+            end,
+        },
+        Case::Cut => {
+            print_cut();
+            let end = cases.len();
+            Taken {
+                kind: NO_KIND,
+                start: end,
+                end,
+            }
+        }
     }
 }
 

@@ -1,6 +1,7 @@
 // What the guest does to the page between the calls.
 ghost use mathlib.Core.Path.{_≡_};
 ghost use lib.ListN.{length};
+use crate::COUNTS;
 use cases::fill;
 use cases::patch;
 use cases::print_cut;
@@ -11,12 +12,15 @@ use ring::REQUESTS;
 use ring::RSP_CONS;
 use ring::RSP_PROD;
 
-// The kinds: octets put at a place, octets made there, octets sent, and octets of acks taken.
+// The kinds: octets put at a place, octets made there, octets sent, octets of acks taken, and other counts. Those between are
+// not the guest's.
 const PATCH: u8 = 1;
 
 const FILL: u8 = 2;
 
 const SEND: u8 = 5;
+
+const TAKE: u8 = 6;
 
 pub(crate) fn act(page: &mut [u8], kind: u8, body: &[u8])
     requires { ⌜ length (now page) ≡ 4160 ⌝ }
@@ -27,8 +31,10 @@ pub(crate) fn act(page: &mut [u8], kind: u8, body: &[u8])
         fill(page, body);
     } else if kind == SEND {
         send(page, body);
-    } else {
+    } else if kind == TAKE {
         take(page, body);
+    } else if kind == COUNTS {
+        empty_areas(page, body);
     }
 }
 
@@ -60,10 +66,16 @@ fn take(page: &mut [u8], body: &[u8])
     octets::write_u32(page, RSP_CONS, std::num::wrapping_add_u32(taken, more));
 }
 
-// Counts by which nothing stands unread in either area.
-pub(crate) fn empty_areas(page: &mut [u8], requests: u32, responses: u32)
+// Counts by which nothing stands unread in either area. The interface then takes its own two from the page.
+fn empty_areas(page: &mut [u8], body: &[u8])
     requires { ⌜ length (now page) ≡ 4160 ⌝ }
 {
+    if body.len() < 8 {
+        print_cut();
+        return;
+    }
+    let requests = octets::read_u32(body, 0);
+    let responses = octets::read_u32(body, 4);
     octets::write_u32(page, REQ_CONS, requests);
     octets::write_u32(page, REQ_PROD, requests);
     octets::write_u32(page, RSP_CONS, responses);

@@ -1,90 +1,164 @@
-// Runs the cases of the file `cases` and prints a line for each setup, event and packet. They act on one interface
-// and one page, one after the other.
+// Runs the cases of its files, one file after the other, and prints a line for each setup, event and packet. They act on one
+// interface and one page, one after the other. The parts of the interface stand in `main`, and are lent.
 ghost use mathlib.Core.Path.{_≡_};
 ghost use lib.ListN.{length};
-ghost use Rattle.backend.specs.States.{Good};
+ghost use Rattle.messages.specs.Settings.{Good as GoodSettings};
+ghost use Rattle.backend.specs.States.{Good, settingsIn, interfaceIn};
 
 mod guest;
 
-use answer_text::host_event;
+use answer_text::HostCase;
+use answer_text::answer_host;
 use answer_text::print_steered;
-use answer_text::recounted;
-use answer_text::set_up_host;
-use backend::Interface;
-use cases::Case;
-use cases::case_at;
-use cases::print_cut;
+use answer_text::set_up_first;
+use backend::ENTRY_COUNT;
+use backend::FLAGS;
+use backend::NUMBERS;
+use cases::PARTS;
+use cases::take_case;
+use messages::HEADER;
+use messages::MAX_ACK;
+use messages::MAX_ENTRIES;
+use messages::MAX_PAYLOAD;
+use toeplitz::KEY_LENGTH;
 
-// The kinds that the interface has a part in; the others are the guest's.
+// The kinds that the interface has a part in, of which the last is the guest's too; the others are the guest's.
 const SET_UP: u8 = 0;
 
 const EVENT: u8 = 3;
 
 const PACKET: u8 = 4;
 
-const COUNTS: u8 = 7;
+pub(crate) const COUNTS: u8 = 7;
 
 fn main() {
     let mut buffer = io::large_buffer();
-    let n = cases::load(&mut buffer);
     let mut page = cases::blank();
-    run(&buffer[..n], &mut page);
+    let mut numbers = [0u64; NUMBERS];
+    let mut header = [0u8; HEADER];
+    let mut payload = [0u8; MAX_PAYLOAD];
+    let mut ack = [0u8; MAX_ACK];
+    let mut key = [0u8; KEY_LENGTH];
+    let mut entries = [0u8; MAX_ENTRIES];
+    set_up_first(
+        &mut numbers,
+        &mut header,
+        &mut payload,
+        &mut ack,
+        &mut key,
+        &mut entries,
+    );
+    for part in 0..PARTS {
+        let n = cases::load_part(part, &mut buffer);
+        if n == 0 {
+            return;
+        }
+        run(
+            &mut numbers,
+            &mut header,
+            &mut payload,
+            &mut ack,
+            &mut key,
+            &mut entries,
+            &mut page,
+            &buffer[..n],
+        );
+    }
 }
 
-fn run(cases: &[u8], page: &mut [u8])
-    requires { ⌜ length (now page) ≡ 4160 ⌝ }
+// Runs the cases of one file on the interface and the page that those before it left.
+fn run<'a>(
+    numbers: &'a mut [u64; NUMBERS],
+    header: &'a mut [u8; HEADER],
+    payload: &'a mut [u8; MAX_PAYLOAD],
+    ack: &'a mut [u8; MAX_ACK],
+    key: &'a mut [u8; KEY_LENGTH],
+    entries: &'a mut [u8; MAX_ENTRIES],
+    page: &mut [u8],
+    cases: &[u8],
+)
+    requires { ⌜ Good (interfaceIn (now numbers) (now header) (now payload) (now ack) (now key) (now entries))
+        × (length (now page) ≡ 4160) ⌝ }
+    ensures { λ _. ⌜ Good (interfaceIn (now (numbers .exit)) (now (header .exit)) (now (payload .exit)) (now (ack .exit)) (now (key .exit))
+        (now (entries .exit))) ⌝ }
 {
-    let first = backend::set_up(1);
-    let mut interface = first.interface;
     let mut at: usize = 0;
     while at < cases.len() {
-        let case = case_at(cases, at);
-        match case {
-            Case::Body { start, end } => {
-                interface = answer(interface, page, cases[at], &cases[start..end]);
-                at = end;
-            }
-            Case::Cut => {
-                print_cut();
-                return;
-            }
-        }
+        let taken = take_case(cases, at);
+        let kind = taken.kind;
+        let start = taken.start;
+        let end = taken.end;
+        let body = &cases[start..end];
+        answer(
+            numbers,
+            header,
+            payload,
+            ack,
+            key,
+            entries,
+            page,
+            kind,
+            body,
+        );
+        at = end;
     }
 }
 
-// Answers one case, and hands back the interface that it leaves.
-fn answer(interface: Interface, page: &mut [u8], kind: u8, body: &[u8]) -> Interface
-    requires { ⌜ Good interface × (length (now page) ≡ 4160) ⌝ }
-    ensures { λ r. ⌜ Good r ⌝ }
+// Answers one case.
+fn answer<'a>(
+    numbers: &'a mut [u64; NUMBERS],
+    header: &'a mut [u8; HEADER],
+    payload: &'a mut [u8; MAX_PAYLOAD],
+    ack: &'a mut [u8; MAX_ACK],
+    key: &'a mut [u8; KEY_LENGTH],
+    entries: &'a mut [u8; MAX_ENTRIES],
+    page: &mut [u8],
+    kind: u8,
+    body: &[u8],
+)
+    requires { ⌜ Good (interfaceIn (now numbers) (now header) (now payload) (now ack) (now key) (now entries))
+        × (length (now page) ≡ 4160) ⌝ }
+    ensures { λ _. ⌜ Good (interfaceIn (now (numbers .exit)) (now (header .exit)) (now (payload .exit)) (now (ack .exit)) (now (key .exit))
+        (now (entries .exit))) ⌝ }
 {
-    if kind == SET_UP {
-        return set_up_host(interface, body);
-    }
-    if kind == EVENT {
-        return host_event(interface, page, body);
-    }
-    if kind == COUNTS {
-        return counts(interface, page, body);
-    }
     if kind == PACKET {
-        print_steered(backend::steer(interface, body));
+        packet(numbers, key, entries, body);
     } else {
         guest::act(page, kind, body);
+        let case = host_case(kind);
+        answer_host(
+            numbers,
+            header,
+            payload,
+            ack,
+            key,
+            entries,
+            page,
+            case,
+            body,
+        );
     }
-    interface
 }
 
-// Other counts of the interface, so that a case can begin near their end, and a page that agrees.
-fn counts(interface: Interface, page: &mut [u8], body: &[u8]) -> Interface
-    requires { ⌜ Good interface × (length (now page) ≡ 4160) ⌝ }
-    ensures { λ r. ⌜ Good r ⌝ }
-{
-    if body.len() < 8 {
-        print_cut();
-        return interface;
+fn host_case(kind: u8) -> HostCase {
+    match kind {
+        SET_UP => HostCase::SetUp,
+        EVENT => HostCase::Event,
+        COUNTS => HostCase::Counts,
+        _ => HostCase::Other,
     }
-    let req_cons = octets::read_u32(body, 0);
-    let rsp_prod = octets::read_u32(body, 4);
-    guest::empty_areas(page, req_cons, rsp_prod);
-    recounted(interface, req_cons, rsp_prod)
+}
+
+// Where a packet goes.
+fn packet(
+    numbers: &[u64; NUMBERS],
+    key: &[u8; KEY_LENGTH],
+    entries: &[u8; MAX_ENTRIES],
+    body: &[u8],
+)
+    requires { ⌜ GoodSettings (settingsIn (now numbers) (now key) (now entries)) ⌝ }
+{
+    let flags = numbers[FLAGS] as u8;
+    let count = numbers[ENTRY_COUNT] as u8;
+    print_steered(backend::steer(flags, key, entries, count, body));
 }

@@ -1,20 +1,28 @@
-// The guest's part in the cases.
+// The guest's part in the cases. The parts of the guest are lent.
 ghost use mathlib.Core.Path.{_≡_};
-ghost use Prim.Native.Nat.{_≤_};
+ghost use mathlib.Core.List.{List};
+ghost use Prim.Native.Nat.{ℕ, _≤_};
 ghost use lib.ListN.{length};
-ghost use Rattle.frontend.specs.Guest.{Good};
-use crate::lines::print_handled;
+ghost use Rattle.frontend.specs.Guest.{Good, guestIn};
+use crate::lines::print_called;
 use cases::MAX_GIVEN;
 use cases::entries_in;
 use cases::number_at;
 use cases::print_cut;
 use cases::print_word;
-use frontend::Guest;
-use frontend::GuestHandled;
+use frontend::Ask;
+use frontend::GuestAnswer;
+use frontend::MAX_ACK_PAYLOAD;
+use frontend::MAX_REQUEST;
+use frontend::NUMBERS;
+use frontend::OWN_REQ_PROD;
+use frontend::OWN_RSP_CONS;
+use messages::HEADER;
 use ring::REQ_PROD;
 use ring::RSP_CONS;
 
-// The kinds: a new guest, the four starts, and between them and other counts an event. Those behind are not the guest's.
+// The kinds: a new guest, the four starts, between them and other counts an event, and octets put into the buffer. Those
+// between are the host's.
 const SET_UP: u8 = 0;
 
 const START_GET_FLAGS: u8 = 1;
@@ -25,65 +33,114 @@ const START_SET_KEY: u8 = 3;
 
 const START_SET_MAPPING: u8 = 4;
 
-// Both ends take their own counts from the page.
+// The page has other counts, and both ends take their own from it.
 pub(crate) const COUNTS: u8 = 6;
 
-// Answers one case, and hands back the guest that it leaves.
-pub(crate) fn answer(guest: Guest, page: &mut [u8], kind: u8, body: &[u8]) -> Guest
-    requires { ⌜ Good guest × (length (now page) ≡ 4160) ⌝ }
-    ensures { λ r. ⌜ Good r ⌝ }
+const PATCH: u8 = 9;
+
+const FILL: u8 = 10;
+
+// A new guest.
+pub(crate) fn set_up<'a>(
+    numbers: &'a mut [u64; NUMBERS],
+    request: &'a mut [u8; MAX_REQUEST],
+    header: &'a mut [u8; HEADER],
+    payload: &'a mut [u8; MAX_ACK_PAYLOAD],
+)
+    ensures { λ _. ⌜ Good (guestIn (now (numbers .exit)) (now (request .exit)) (now (header .exit)) (now (payload .exit))) ⌝ }
+{
+    frontend::set_up(numbers, request, header, payload);
+}
+
+// Answers one case.
+pub(crate) fn answer<'a>(
+    numbers: &'a mut [u64; NUMBERS],
+    request: &'a mut [u8; MAX_REQUEST],
+    header: &'a mut [u8; HEADER],
+    payload: &'a mut [u8; MAX_ACK_PAYLOAD],
+    page: &mut [u8],
+    kind: u8,
+    body: &[u8],
+)
+    requires { ⌜ Good (guestIn (now numbers) (now request) (now header) (now payload)) × (length (now page) ≡ 4160) ⌝ }
+    ensures { λ _. ⌜ Good (guestIn (now (numbers .exit)) (now (request .exit)) (now (header .exit)) (now (payload .exit))) ⌝ }
 {
     if kind == SET_UP {
         print_word(b"guest set up\n");
-        return frontend::set_up();
+        set_up(numbers, request, header, payload);
+    } else if kind < COUNTS {
+        call(numbers, request, header, payload, page, kind, body);
+    } else if kind == COUNTS {
+        cases::patch(page, body);
+        recount(numbers, &page[..]);
+    } else if kind == PATCH {
+        cases::patch(page, body);
+    } else if kind == FILL {
+        cases::fill(page, body);
     }
-    if kind == COUNTS {
-        let req_prod = octets::read_u32(&page[..], REQ_PROD);
-        let rsp_cons = octets::read_u32(&page[..], RSP_CONS);
-        return recounted(guest, req_prod, rsp_cons);
-    }
-    if kind < COUNTS {
-        return call(guest, page, kind, body);
-    }
-    guest
 }
 
 // A call on so many octets of the buffer. The line has all octets, those behind the lent ones too.
-fn call(guest: Guest, page: &mut [u8], kind: u8, body: &[u8]) -> Guest
-    requires { ⌜ Good guest ⌝ }
-    ensures { λ r. ⌜ Good r ⌝ }
+fn call<'a>(
+    numbers: &'a mut [u64; NUMBERS],
+    request: &'a mut [u8; MAX_REQUEST],
+    header: &'a mut [u8; HEADER],
+    payload: &'a mut [u8; MAX_ACK_PAYLOAD],
+    page: &mut [u8],
+    kind: u8,
+    body: &[u8],
+)
+    requires { ⌜ Good (guestIn (now numbers) (now request) (now header) (now payload)) ⌝ }
+    ensures { λ _. ⌜ Good (guestIn (now (numbers .exit)) (now (request .exit)) (now (header .exit)) (now (payload .exit))) ⌝ }
 {
     if body.len() < 2 {
         print_cut();
-        return guest;
+        return;
     }
     let n = number_at(body, 0);
     if n > page.len() {
         print_cut();
-        return guest;
+        return;
     }
-    let handled = called(guest, &mut page[0..n], kind, &body[2..]);
-    print_handled(handled, &page[..]);
-    handled.guest
+    let lent = &mut page[0..n];
+    let answer = called(numbers, request, header, payload, lent, kind, &body[2..]);
+    print_called(answer, numbers, &page[..]);
 }
 
-fn called(guest: Guest, page: &mut [u8], kind: u8, given: &[u8]) -> GuestHandled
-    requires { ⌜ Good guest ⌝ }
-    ensures { λ r. ⌜ Good (r .guest) ⌝ }
+fn called<'a>(
+    numbers: &'a mut [u64; NUMBERS],
+    request: &'a mut [u8; MAX_REQUEST],
+    header: &'a mut [u8; HEADER],
+    payload: &'a mut [u8; MAX_ACK_PAYLOAD],
+    page: &mut [u8],
+    kind: u8,
+    given: &[u8],
+) -> GuestAnswer
+    requires { ⌜ Good (guestIn (now numbers) (now request) (now header) (now payload)) ⌝ }
+    ensures { λ _. ⌜ Good (guestIn (now (numbers .exit)) (now (request .exit)) (now (header .exit)) (now (payload .exit))) ⌝ }
 {
+    if kind > START_SET_MAPPING {
+        return frontend::event(numbers, request, header, payload, page);
+    }
+    let ask = ask_in(kind, given);
+    let count = count_in(given);
+    let entries = entries_behind(given, count);
+    let mapping = &entries[0..count];
+    frontend::start(numbers, request, header, payload, page, ask, given, mapping)
+}
+
+// What a start asks for. A key is what is given, and a mapping has the entries behind their number.
+fn ask_in(kind: u8, given: &[u8]) -> Ask {
     if kind == START_GET_FLAGS {
-        return frontend::start_get_flags(guest, page);
+        return Ask::GetFlags;
     }
     if kind == START_SET_FLAGS {
-        return frontend::start_set_flags(guest, page, flags_in(given));
+        return Ask::SetFlags(flags_in(given));
     }
     if kind == START_SET_KEY {
-        return frontend::start_set_key(guest, page, given);
+        return Ask::SetKey;
     }
-    if kind == START_SET_MAPPING {
-        return start_mapping(guest, page, given);
-    }
-    frontend::event(guest, page)
+    Ask::SetMapping
 }
 
 fn flags_in(given: &[u8]) -> u64 {
@@ -91,16 +148,6 @@ fn flags_in(given: &[u8]) -> u64 {
         return 0;
     }
     octets::read_u64(given, 0)
-}
-
-// How many entries, and as many of them as are not those before once more.
-fn start_mapping(guest: Guest, page: &mut [u8], given: &[u8]) -> GuestHandled
-    requires { ⌜ Good guest ⌝ }
-    ensures { λ r. ⌜ Good (r .guest) ⌝ }
-{
-    let count = count_in(given);
-    let entries = entries_behind(given, count);
-    start_first(guest, page, &entries, count)
 }
 
 fn count_in(given: &[u8]) -> usize
@@ -116,6 +163,7 @@ fn count_in(given: &[u8]) -> usize
     count
 }
 
+// So many entries, of which as many are given as are not those before once more.
 fn entries_behind(given: &[u8], count: usize) -> [u64; MAX_GIVEN]
     requires { ⌜ count ≤ 256 ⌝ }
 {
@@ -125,31 +173,15 @@ fn entries_behind(given: &[u8], count: usize) -> [u64; MAX_GIVEN]
     entries_in(&given[2..], count)
 }
 
-// Starts to set the mapping of the first `count` entries.
-fn start_first(guest: Guest, page: &mut [u8], entries: &[u64], count: usize) -> GuestHandled
-    requires { ⌜ Good guest × (count ≤ length (now entries)) ⌝ }
-    ensures { λ r. ⌜ Good (r .guest) ⌝ }
+// Takes the counts of the guest's own from the page, so that a case can begin near their end.
+fn recount(numbers: &mut [u64; NUMBERS], page: &[u8])
+    requires { ⌜ length (now page) ≡ 4160 ⌝ }
+    ensures { λ _. ⌜ ((request header payload : List ℕ) → Good (guestIn (now (numbers .entry)) request header payload)
+        → Good (guestIn (now (numbers .exit)) request header payload)) ⌝ }
 {
-    frontend::start_set_mapping(guest, page, &entries[0..count])
-}
-
-// The guest with other counts of its own, so that a case can begin near their end.
-fn recounted(guest: Guest, req_prod: u32, rsp_cons: u32) -> Guest
-    requires { ⌜ Good guest ⌝ }
-    ensures { λ r. ⌜ Good r ⌝ }
-{
-    let request = guest.request;
-    let header = guest.header;
-    let payload = guest.payload;
-    Guest {
-        phase: guest.phase,
-        request,
-        length: guest.length,
-        written: guest.written,
-        req_prod,
-        header,
-        payload,
-        taken: guest.taken,
-        rsp_cons,
-    }
+    let req_prod = octets::read_u32(page, REQ_PROD);
+    let rsp_cons = octets::read_u32(page, RSP_CONS);
+    let held = &mut numbers[..];
+    held[OWN_REQ_PROD] = req_prod as u64;
+    held[OWN_RSP_CONS] = rsp_cons as u64;
 }

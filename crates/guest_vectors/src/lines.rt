@@ -3,7 +3,10 @@ use cases::print_digest;
 use cases::print_number;
 use cases::print_word;
 use frontend::GuestAnswer;
-use frontend::GuestHandled;
+use frontend::NUMBERS;
+use frontend::OWN_REQ_PROD;
+use frontend::OWN_RSP_CONS;
+use frontend::PHASE;
 use frontend::REQUEST_OUTSTANDING;
 use frontend::Refusal;
 use guest_messages::NOT_AN_ACK;
@@ -11,13 +14,11 @@ use guest_messages::VALUE_NOT_LISTED;
 use toeplitz::KEY_LENGTH_WRONG;
 
 // The answer, the guest's phase and own counts, and all octets of the buffer.
-pub(crate) fn print_handled(handled: GuestHandled, page: &[u8]) {
-    let answer = handled.answer;
-    let guest = handled.guest;
+pub(crate) fn print_called(answer: GuestAnswer, numbers: &[u64; NUMBERS], page: &[u8]) {
     print_answer(answer);
-    print_number(b" phase ", guest.phase as u64);
-    print_number(b" req_prod ", guest.req_prod as u64);
-    print_number(b" rsp_cons ", guest.rsp_cons as u64);
+    print_number(b" phase ", numbers[PHASE]);
+    print_number(b" req_prod ", numbers[OWN_REQ_PROD]);
+    print_number(b" rsp_cons ", numbers[OWN_RSP_CONS]);
     print_digest(b" page ", page);
     print_word(b"\n");
 }

@@ -1,113 +1,125 @@
-// Runs the cases of the file `cases` and prints a line for each setup, start and event. They act on one guest, one
-// interface of the host and one page, one after the other.
+// Runs the cases of its files, one file after the other, and prints a line for each setup, start and event. They act on one
+// guest, one interface of the host and one page, one after the other. The parts of both ends stand in `main`, and are lent.
 ghost use mathlib.Core.Path.{_≡_};
 ghost use lib.ListN.{length};
-ghost use Rattle.backend.specs.States.{Good};
-ghost use Rattle.frontend.specs.Guest.{Good as GoodGuest};
+ghost use Rattle.backend.specs.States.{Good, interfaceIn};
+ghost use Rattle.frontend.specs.Guest.{Good as GoodGuest, guestIn};
 
 mod guest;
 mod lines;
 
-use answer_text::host_event;
-use answer_text::recounted;
-use answer_text::set_up_host;
-use backend::Interface;
-use cases::Case;
-use cases::case_at;
-use cases::print_cut;
-use frontend::Guest;
+use answer_text::HostCase;
+use answer_text::answer_host;
+use answer_text::set_up_first;
+use backend::NUMBERS;
+use cases::PARTS;
+use cases::take_case;
+use frontend::MAX_ACK_PAYLOAD;
+use frontend::MAX_REQUEST;
 use guest::COUNTS;
-use ring::REQ_CONS;
-use ring::RSP_PROD;
+use messages::HEADER;
+use messages::MAX_ACK;
+use messages::MAX_ENTRIES;
+use messages::MAX_PAYLOAD;
+use toeplitz::KEY_LENGTH;
 
-// The kinds of the host, and those that put octets into the buffer; the others are the guest's.
+// The kinds of the host; the others are the guest's, and that of other counts is both ends'.
 const SET_UP: u8 = 7;
 
 const EVENT: u8 = 8;
 
-const PATCH: u8 = 9;
-
-const FILL: u8 = 10;
-
-// The two ends of the ring.
-struct Ends {
-    guest: Guest,
-    interface: Interface,
-}
-
 fn main() {
     let mut buffer = io::large_buffer();
-    let n = cases::load(&mut buffer);
     let mut page = cases::blank();
-    run(&buffer[..n], &mut page);
+    let mut own = [0u64; frontend::NUMBERS];
+    let mut request = [0u8; MAX_REQUEST];
+    let mut ack_header = [0u8; HEADER];
+    let mut ack_payload = [0u8; MAX_ACK_PAYLOAD];
+    let mut numbers = [0u64; NUMBERS];
+    let mut header = [0u8; HEADER];
+    let mut payload = [0u8; MAX_PAYLOAD];
+    let mut ack = [0u8; MAX_ACK];
+    let mut key = [0u8; KEY_LENGTH];
+    let mut entries = [0u8; MAX_ENTRIES];
+    guest::set_up(&mut own, &mut request, &mut ack_header, &mut ack_payload);
+    set_up_first(
+        &mut numbers,
+        &mut header,
+        &mut payload,
+        &mut ack,
+        &mut key,
+        &mut entries,
+    );
+    for part in 0..PARTS {
+        // A file that is not there has no case.
+        let n = cases::load_part(part, &mut buffer);
+        run(
+            &mut own,
+            &mut request,
+            &mut ack_header,
+            &mut ack_payload,
+            &mut numbers,
+            &mut header,
+            &mut payload,
+            &mut ack,
+            &mut key,
+            &mut entries,
+            &mut page,
+            &buffer[..n],
+        );
+    }
 }
 
-fn run(cases: &[u8], page: &mut [u8])
-    requires { ⌜ length (now page) ≡ 4160 ⌝ }
+// Runs the cases of one file on the ends and the page that those before it left.
+fn run<'a>(
+    own: &'a mut [u64; frontend::NUMBERS],
+    request: &'a mut [u8; MAX_REQUEST],
+    ack_header: &'a mut [u8; HEADER],
+    ack_payload: &'a mut [u8; MAX_ACK_PAYLOAD],
+    numbers: &'a mut [u64; NUMBERS],
+    header: &'a mut [u8; HEADER],
+    payload: &'a mut [u8; MAX_PAYLOAD],
+    ack: &'a mut [u8; MAX_ACK],
+    key: &'a mut [u8; KEY_LENGTH],
+    entries: &'a mut [u8; MAX_ENTRIES],
+    page: &mut [u8],
+    cases: &[u8],
+)
+    requires { ⌜ GoodGuest (guestIn (now own) (now request) (now «ack_header») (now «ack_payload»))
+        × Good (interfaceIn (now numbers) (now header) (now payload) (now ack) (now key) (now entries)) × (length (now page) ≡ 4160) ⌝ }
+    ensures { λ _. ⌜ GoodGuest (guestIn (now (own .exit)) (now (request .exit)) (now («ack_header» .exit)) (now («ack_payload» .exit)))
+        × Good (interfaceIn (now (numbers .exit)) (now (header .exit)) (now (payload .exit)) (now (ack .exit)) (now (key .exit))
+        (now (entries .exit))) ⌝ }
 {
-    let mut ends = at_start();
     let mut at: usize = 0;
     while at < cases.len() {
-        let case = case_at(cases, at);
-        match case {
-            Case::Body { start, end } => {
-                ends = answer(ends, page, cases[at], &cases[start..end]);
-                at = end;
-            }
-            Case::Cut => {
-                print_cut();
-                return;
-            }
-        }
+        let taken = take_case(cases, at);
+        let kind = taken.kind;
+        let start = taken.start;
+        let end = taken.end;
+        let body = &cases[start..end];
+        guest::answer(own, request, ack_header, ack_payload, page, kind, body);
+        let case = host_case(kind);
+        answer_host(
+            numbers,
+            header,
+            payload,
+            ack,
+            key,
+            entries,
+            page,
+            case,
+            body,
+        );
+        at = end;
     }
 }
 
-fn at_start() -> Ends
-    ensures { λ r. ⌜ GoodGuest (r .guest) × Good (r .interface) ⌝ }
-{
-    let guest = frontend::set_up();
-    let first = backend::set_up(1);
-    let interface = first.interface;
-    Ends { guest, interface }
-}
-
-// Answers one case, and hands back the ends that it leaves. The two have no kind in common but that of other counts.
-fn answer(ends: Ends, page: &mut [u8], kind: u8, body: &[u8]) -> Ends
-    requires { ⌜ GoodGuest (ends .guest) × Good (ends .interface) × (length (now page) ≡ 4160) ⌝ }
-    ensures { λ r. ⌜ GoodGuest (r .guest) × Good (r .interface) ⌝ }
-{
-    edit(page, kind, body);
-    let guest = guest::answer(ends.guest, page, kind, body);
-    let interface = host_answer(ends.interface, page, kind, body);
-    Ends { guest, interface }
-}
-
-// Puts octets into the buffer. Where the case is one of counts, each end then takes its own two from the page.
-fn edit(page: &mut [u8], kind: u8, body: &[u8]) {
-    if kind == PATCH {
-        cases::patch(page, body);
-    } else if kind == COUNTS {
-        cases::patch(page, body);
-    } else if kind == FILL {
-        cases::fill(page, body);
+fn host_case(kind: u8) -> HostCase {
+    match kind {
+        SET_UP => HostCase::SetUp,
+        EVENT => HostCase::Event,
+        COUNTS => HostCase::Counts,
+        _ => HostCase::Other,
     }
-}
-
-// The host's part in a case, and the interface that it leaves.
-fn host_answer(interface: Interface, page: &mut [u8], kind: u8, body: &[u8]) -> Interface
-    requires { ⌜ Good interface × (length (now page) ≡ 4160) ⌝ }
-    ensures { λ r. ⌜ Good r ⌝ }
-{
-    if kind == SET_UP {
-        return set_up_host(interface, body);
-    }
-    if kind == EVENT {
-        return host_event(interface, page, body);
-    }
-    if kind == COUNTS {
-        let req_cons = octets::read_u32(&page[..], REQ_CONS);
-        let rsp_prod = octets::read_u32(&page[..], RSP_PROD);
-        return recounted(interface, req_cons, rsp_prod);
-    }
-    interface
 }

@@ -10,23 +10,23 @@ use guest_messages::NOT_AN_ACK;
 use guest_messages::VALUE_NOT_LISTED;
 use guest_messages::Written;
 use libc::STDOUT_FILENO;
-use messages::Ack;
-use messages::Carried;
+use messages::MAX_ACK;
+use messages::Numbers;
 use toeplitz::KEY_LENGTH_WRONG;
 
 // The octets of the ack, and the settings left.
-pub(crate) fn print_carried(carried: Carried) {
-    let settings = carried.settings;
-    print_ack(carried.ack);
-    print_number(b" queues ", settings.queues as u64);
-    print_settings(settings);
-}
-
-fn print_ack(ack: Ack) {
-    let octets = ack.octets;
-    print_number(b"ack ", ack.length as u64);
+pub(crate) fn print_carried(
+    carried: Numbers,
+    queues: u8,
+    ack: &[u8; MAX_ACK],
+    key: &[u8],
+    entries: &[u8],
+) {
+    print_number(b"ack ", carried.ack_length as u64);
     print_word(b" ");
-    print_octets(&octets);
+    print_octets(ack);
+    print_number(b" queues ", queues as u64);
+    print_settings(carried.flags as u64, carried.count as u64, key, entries);
 }
 
 fn print_octets(octets: &[u8]) {

@@ -1,5 +1,5 @@
-// Runs the cases of the file `cases` and prints a line for each. Cases of requests act on one interface, one
-// after the other.
+// Runs the cases of its files, one file after the other, and prints a line for each. Cases of requests act on the settings of
+// one interface, one after the other. Its numbers, key and mapping entries stand in `main`, and are lent.
 ghost use Prim.Native.Nat.{_≤_};
 ghost use lib.ListN.{length};
 
@@ -10,13 +10,16 @@ use answers::print_carried;
 use answers::print_written;
 use cases::Case;
 use cases::MAX_GIVEN;
+use cases::PARTS;
 use cases::case_at;
 use cases::entries_in;
 use cases::number_at;
 use cases::print_cut;
 use guest_messages::Written;
+use messages::MAX_ACK;
+use messages::MAX_ENTRIES;
 use messages::MAX_PAYLOAD;
-use messages::Settings;
+use toeplitz::KEY_LENGTH;
 
 // The kinds: a new interface with a queue count, a request carried out, the writer's four calls, and an ack
 // read.
@@ -35,20 +38,49 @@ const WRITE_SET_MAPPING: u8 = 5;
 // The longest output buffer of a case.
 const MAX_BUFFER: usize = 1100;
 
+// The places of the numbers: queues in operation, flags, and mapping entries.
+const QUEUES: usize = 0;
+
+const FLAGS: usize = 1;
+
+const COUNT: usize = 2;
+
+const NUMBERS: usize = 3;
+
 fn main() {
     let mut buffer = io::large_buffer();
-    let n = cases::load(&mut buffer);
-    run(&buffer[..n]);
+    let mut numbers = at_setup(1);
+    let mut key = [0u8; KEY_LENGTH];
+    let mut entries = [0u8; MAX_ENTRIES];
+    for part in 0..PARTS {
+        let n = cases::load_part(part, &mut buffer);
+        if n == 0 {
+            return;
+        }
+        run(&mut numbers, &mut key, &mut entries, &buffer[..n]);
+    }
 }
 
-fn run(cases: &[u8]) {
-    let mut settings = messages::at_setup(1);
+// No flags, and a mapping of one entry.
+fn at_setup(queues: u8) -> [u8; NUMBERS] {
+    [queues, 0, 1]
+}
+
+// Runs the cases of one file on the settings that those before it left.
+fn run(
+    numbers: &mut [u8; NUMBERS],
+    key: &mut [u8; KEY_LENGTH],
+    entries: &mut [u8; MAX_ENTRIES],
+    cases: &[u8],
+) {
     let mut at: usize = 0;
     while at < cases.len() {
         let case = case_at(cases, at);
         match case {
             Case::Body { start, end } => {
-                settings = answer(settings, cases[at], &cases[start..end]);
+                let kind = cases[at];
+                let body = &cases[start..end];
+                answer(numbers, key, entries, kind, body);
                 at = end;
             }
             Case::Cut => {
@@ -59,50 +91,74 @@ fn run(cases: &[u8]) {
     }
 }
 
-// Answers one case, and hands back the settings that it leaves.
-fn answer(settings: Settings, kind: u8, body: &[u8]) -> Settings {
+// Answers one case.
+fn answer(
+    numbers: &mut [u8; NUMBERS],
+    key: &mut [u8; KEY_LENGTH],
+    entries: &mut [u8; MAX_ENTRIES],
+    kind: u8,
+    body: &[u8],
+) {
     if kind == SET_UP {
-        return set_up(settings, body);
-    }
-    if kind == REQUEST {
-        return request(settings, body);
-    }
-    if body.len() < 2 {
+        set_up(numbers, key, entries, body);
+    } else if kind == REQUEST {
+        request(numbers, key, entries, body);
+    } else if body.len() < 2 {
         print_cut();
-        return settings;
-    }
-    if kind <= WRITE_SET_MAPPING {
+    } else if kind <= WRITE_SET_MAPPING {
         write(kind, body);
     } else {
         read(body);
     }
-    settings
 }
 
-fn set_up(settings: Settings, body: &[u8]) -> Settings {
+fn set_up(
+    numbers: &mut [u8; NUMBERS],
+    key: &mut [u8; KEY_LENGTH],
+    entries: &mut [u8; MAX_ENTRIES],
+    body: &[u8],
+) {
     if body.len() < 1 {
-        return settings;
+        return;
     }
-    messages::at_setup(body[0])
+    *numbers = at_setup(body[0]);
+    *key = [0; KEY_LENGTH];
+    *entries = [0; MAX_ENTRIES];
 }
 
 // Type, size and kept payload. What stands behind the payload in the buffer is not to be looked at.
-fn request(settings: Settings, body: &[u8]) -> Settings {
+fn request(
+    numbers: &mut [u8; NUMBERS],
+    key: &mut [u8; KEY_LENGTH],
+    entries: &mut [u8; MAX_ENTRIES],
+    body: &[u8],
+) {
     if body.len() < 8 {
-        return settings;
+        return;
     }
     if body.len() - 8 > MAX_PAYLOAD {
-        return settings;
+        return;
     }
     let payload = payload_of(&body[8..]);
+    let kind = octets::read_u32(body, 0);
+    let size = octets::read_u32(body, 4);
+    let queues = numbers[QUEUES];
+    let flags = numbers[FLAGS];
+    let count = numbers[COUNT];
+    let mut ack = [0u8; MAX_ACK];
     let carried = messages::carry_out(
-        settings,
-        octets::read_u32(body, 0),
-        octets::read_u32(body, 4),
+        queues,
+        flags,
+        count,
+        key,
+        entries,
+        kind,
+        size,
         &payload,
+        &mut ack,
     );
-    print_carried(carried);
-    carried.settings
+    *numbers = [queues, carried.flags, carried.count];
+    print_carried(carried, queues, &ack, key, entries);
 }
 
 // What stands in the host's buffer before a payload comes.

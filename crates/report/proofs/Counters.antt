@@ -11,8 +11,7 @@ use lib.Dec.{eqb}
 use borrow.Author.Tests.{eqb-true, eqb-false, eq-eqb}
 use Rattle.octets.specs.Outcome.{value, refused}
 use Rattle.octets.proofs.Outcomes.{test-refused}
-use Rattle.messages.specs.Settings.{maxQueues}
-use Rattle.messages.specs.declared.Settings.{Settings}
+use Rattle.messages.specs.Settings.{Settings, maxQueues}
 use Rattle.steering.specs.Steering.{queueIn}
 use Rattle.capture.specs.Records.{recordWrong, Fall, noRecord, oneMore, allOf, capturedOctets}
 use Rattle.capture.specs.declared.Link.{Link}

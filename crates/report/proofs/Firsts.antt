@@ -9,17 +9,14 @@ use lib.ListN.{length, take, drop, length-append, length-drop, drop-of-length-le
 use lib.Seq.{length-take-le, take-all, take-length, take-append-seam, drop-drop}
 use borrow.Author.Tests.{leb-true}
 use Rattle.octets.specs.Outcome.{value, refused}
-use Rattle.octets.specs.Numbers.{numberAt}
-use Rattle.messages.specs.Wire.{maxPayload, headerSize, fieldSize, typeIn, sizeIn, success}
-use Rattle.messages.specs.Settings.{Good}
-use Rattle.messages.specs.Requests.{ackStatus, carriedOut, carriedMessage}
-use Rattle.messages.specs.declared.Settings.{Settings}
-use Rattle.messages.specs.declared.Carried.{Carried}
-use Rattle.messages.proofs.Theorems.{status-in-place, good-stays-good}
+use Rattle.messages.specs.Wire.{maxPayload, headerSize, typeIn, sizeIn, success}
+use Rattle.messages.specs.Settings.{Settings, Good}
+use Rattle.messages.specs.Requests.{Carried, ackStatus, carriedOut, carriedMessage}
+use Rattle.messages.proofs.Theorems.{good-stays-good}
 use Rattle.ring.specs.Reading.{messageLength}
 use Rattle.ring.specs.Streams.{beginsWhole, firstMessage}
 use Rattle.report.specs.Loading.{settingsWrong, settingsFrom}
-use Rattle.report.specs.Inner.{CarriesFirst, Keeps}
+use Rattle.report.specs.Inner.{LeavesAcked, CarriesFirst, Keeps}
 use Rattle.report.proofs.Loads.{from-none, from-cut, from-refused, from-next, first-carried}
 
 -- what is kept of a payload: its first n octets, put over the start of the buffer
@@ -41,34 +38,35 @@ pub first-cut : (s : Settings) (xs : List ℕ) → Good s → 0 < length xs → 
 first-cut s xs good some e =
     record { good = good; refuses = λ _. from-cut s xs some e; inside = omega arith; goes-on = λ l. absurd (omega arith) }
 
--- a whole message, carried out with what is kept of its payload; the status is read from the ack
+-- a whole message, carried out with what is kept of its payload
 module _ (s : Settings) (xs kept : List ℕ) (good : Good s) (whole : beginsWhole xs ≡ true)
-    (keeps : Keeps (take (sizeIn xs) (drop headerSize xs)) kept) (c : Carried) (is : c ≡ carriedOut s (typeIn xs) (sizeIn xs) kept)
+    (keeps : Keeps (take (sizeIn xs) (drop headerSize xs)) kept) (status : ℕ) (left : Settings)
+    (is : LeavesAcked (carriedOut s (typeIn xs) (sizeIn xs) kept) status left)
   where
-    good-left : Good (c .settings)
-    good-left = rw is (good-stays-good s (typeIn xs) (sizeIn xs) kept good (omega (arith, keeps .size)))
+    good-left : Good left
+    good-left = rw (is .leaves) (good-stays-good s (typeIn xs) (sizeIn xs) kept good (omega (arith, keeps .size)))
 
-    status : numberAt fieldSize (c .ack .octets) headerSize ≡ ackStatus (carriedMessage s (firstMessage xs) [])
-    status = rw is (status-in-place s (typeIn xs) (sizeIn xs) kept) ∙ ap ackStatus (first-carried s xs kept whole keeps)
+    acked : status ≡ ackStatus (carriedMessage s (firstMessage xs) [])
+    acked = is .acked ∙ ap ackStatus (first-carried s xs kept whole keeps)
 
-    pub first-refused : (numberAt fieldSize (c .ack .octets) headerSize ≡ success → ⊥) → CarriesFirst s xs 0 (c .settings)
+    pub first-refused : (status ≡ success → ⊥) → CarriesFirst s xs 0 left
     first-refused h =
         record {
           good = good-left;
-          refuses = λ _. from-refused s xs whole (λ e. h (status ∙ e));
+          refuses = λ _. from-refused s xs whole (λ e. h (acked ∙ e));
           inside = omega arith;
           goes-on = λ l. absurd (omega arith);
         }
 
-    pub first-done : numberAt fieldSize (c .ack .octets) headerSize ≡ success → CarriesFirst s xs (messageLength xs) (c .settings)
+    pub first-done : status ≡ success → CarriesFirst s xs (messageLength xs) left
     first-done e =
-        let left : c .settings ≡ carriedMessage s (firstMessage xs) [] .settings =
-        ap (λ (x : Carried). x .settings) (is ∙ first-carried s xs kept whole keeps) in
+        let after : left ≡ carriedMessage s (firstMessage xs) [] .settings =
+        is .leaves ∙ ap (λ (x : Carried). x .settings) (first-carried s xs kept whole keeps) in
         record {
           good = good-left;
           refuses = λ z. absurd (omega (arith, z));
           inside = leb-true (messageLength xs) (length xs) whole;
-          goes-on = λ l. rw left (from-next s xs whole (sym status ∙ e));
+          goes-on = λ l. rw after (from-next s xs whole (sym acked ∙ e));
         }
 
 -- messages one after the other: `left` are the settings before the octets from `at` on

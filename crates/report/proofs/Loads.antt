@@ -9,23 +9,21 @@ use lib.ListN.{length, getD, take, drop, length-drop}
 use lib.Seq.{length-take-le, take-all, take-add, drop-at, getD-take}
 use lib.Dec.{eqb, leb}
 use borrow.Author.Tests.{eq-eqb, ne-eqb, leb-true, leb-false}
-use Rattle.octets.specs.Outcome.{value, refused}
+use Rattle.octets.specs.Outcome.{Outcome, value, refused, andThen, done, numberOf, placed, itself}
+use Rattle.octets.proofs.Truth.{both-true}
 use Rattle.octets.proofs.Numbers.{number-same}
-use Rattle.octets.proofs.Outcomes.{value-not-refused}
 use Rattle.messages.specs.Wire.{headerSize, sizeIn, typeIn, payloadIn, maxPayload, success}
-use Rattle.messages.specs.Requests.{ackStatus, carriedOut, carriedMessage}
-use Rattle.messages.specs.declared.Settings.{Settings}
-use Rattle.messages.specs.declared.Carried.{Carried}
-use Rattle.messages.proofs.Theorems.{header-bounds-payload, header-alone}
+use Rattle.messages.specs.Settings.{Settings, maxQueues, Good}
+use Rattle.messages.specs.Requests.{Carried, ackStatus, carriedOut, carriedMessage}
+use Rattle.messages.proofs.Theorems.{header-bounds-payload, header-alone, good-at-setup}
 use Rattle.ring.specs.Reading.{messageLength}
 use Rattle.ring.specs.Streams.{beginsWhole, firstMessage, behindFirst}
 use Rattle.ring.proofs.Holdings.{size-front}
-use Rattle.backend.specs.States.{queuesWrong, setUpOutcome}
-use Rattle.backend.specs.declared.Interface.{Interface}
+use Rattle.backend.specs.States.{HostState, queuesWrong, interfaceAtSetup, setUpOutcome}
 use Rattle.backend.specs.Streams.{messagesWithin, restWithin, messagesIn, restOf, settingsAfter}
 use Rattle.backend.proofs.Falls.{falls-first, falls-none}
 use Rattle.report.specs.Loading.{settingsWrong, allSucceed, settingsFrom, settingsOutcome}
-use Rattle.report.specs.Inner.{Keeps}
+use Rattle.report.specs.Inner.{settingsSetUp, Keeps}
 
 -- a part by its start and its length
 drop-take : (a n : ℕ) (xs : List ℕ) → drop a (take (a + n) xs) ≡ take n (drop a xs)
@@ -103,14 +101,38 @@ first-carried s xs kept whole keeps =
     ∙ carried-kept s (firstMessage xs) kept (ap length part ∙ long ∙ sym size)
     (rw part (keeps .begins))
 
--- the queue count of a file, and the messages behind it
-pub load-refused : (file : List ℕ) → setUpOutcome (getD file 0 0) ≡ refused queuesWrong → refused queuesWrong ≡ settingsOutcome file
-unfolding settingsOutcome
-load-refused [] e = refl
-load-refused (q ∷ xs) e = rw e refl
+-- setup, by its test
+abbrev outcome : ℕ → Bool → Outcome HostState
+outcome q t = cond t (value (interfaceAtSetup q)) (refused queuesWrong)
 
-pub load-done : (file : List ℕ) (i : Interface) → setUpOutcome (getD file 0 0) ≡ value i
-    → (0 < length file) × (settingsFrom (i .settings) (drop 1 file) ≡ settingsOutcome file)
+-- the settings that it leaves are good
+pub set-up-good : (q : ℕ) → Good (settingsSetUp q)
+unfolding setUpOutcome
+set-up-good q = by (leb 1 q && leb q maxQueues) refl
+  where
+    by : (t : Bool) → (leb 1 q && leb q maxQueues) ≡ t → Good (placed itself (outcome q t) (interfaceAtSetup 1) .settings)
+    by true e = let x = both-true (leb 1 q) (leb q maxQueues) .0 e in good-at-setup q (leb-true _ _ (x .0)) (leb-true _ _ (x .1))
+    by false e = good-at-setup 1 (omega arith) (omega arith)
+
+-- the queue count of a file, and the messages behind it
+pub load-refused : (file : List ℕ) → queuesWrong ≡ numberOf (setUpOutcome (getD file 0 0)) → refused queuesWrong ≡ settingsOutcome file
 unfolding settingsOutcome setUpOutcome
-load-done [] i e = absurd (value-not-refused i queuesWrong (sym e))
-load-done (q ∷ xs) i e = (omega arith, rw e refl)
+load-refused [] e = refl
+load-refused (q ∷ xs) e = by (leb 1 q && leb q maxQueues) e
+  where
+    by : (t : Bool) → queuesWrong ≡ numberOf (outcome q t)
+        → refused queuesWrong ≡ andThen (outcome q t) (λ (i : HostState). settingsFrom (i .settings) xs)
+    by true e = absurd (omega (arith, e))
+    by false e = refl
+
+pub load-done : (file : List ℕ) → done ≡ numberOf (setUpOutcome (getD file 0 0))
+    → (0 < length file) × (settingsFrom (settingsSetUp (getD file 0 0)) (drop 1 file) ≡ settingsOutcome file)
+unfolding settingsOutcome setUpOutcome
+load-done [] e = absurd (omega (arith, e))
+load-done (q ∷ xs) e = (omega arith, by (leb 1 q && leb q maxQueues) e)
+  where
+    by : (t : Bool) → done ≡ numberOf (outcome q t)
+        → settingsFrom (placed itself (outcome q t) (interfaceAtSetup 1) .settings) xs
+        ≡ andThen (outcome q t) (λ (i : HostState). settingsFrom (i .settings) xs)
+    by true e = refl
+    by false e = absurd (omega (arith, e))

@@ -6,7 +6,7 @@ use Prim.Native.Nat.{ℕ, _≤_, _<_}
 use lib.ListN.{length}
 use borrow.Author.Tests.{le-leb, lt-leb}
 use Rattle.octets.specs.Outcome.{value, refused}
-use Rattle.messages.specs.declared.Settings.{Settings}
+use Rattle.messages.specs.Settings.{Settings}
 use Rattle.capture.specs.Header.{headerOutcome}
 use Rattle.capture.specs.Records.{recordWrong, recordsOutcome}
 use Rattle.capture.specs.declared.Link.{Link}

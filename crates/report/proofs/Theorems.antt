@@ -15,15 +15,13 @@ use Rattle.octets.proofs.Truth.{both-true}
 use Rattle.octets.proofs.Outcomes.{value-same, value-not-refused, test-value}
 use Rattle.toeplitz.specs.Hash.{keyLength}
 use Rattle.messages.specs.Wire.{headerSize, typeIn, sizeIn, payloadIn}
-use Rattle.messages.specs.Settings.{maxQueues, tableOf, settingsAtSetup, Good}
+use Rattle.messages.specs.Settings.{Settings, maxQueues, tableOf, settingsAtSetup, Good}
 use Rattle.messages.specs.Requests.{carriedMessage}
-use Rattle.messages.specs.declared.Settings.{Settings}
 use Rattle.messages.proofs.Theorems.{header-bounds-payload, good-stays-good, good-at-setup}
 use Rattle.packet.specs.Packets.{PacketType, noType, hashType, isIpv4, isIpv6, kindOf}
 use Rattle.steering.specs.Steering.{queueIn, typeUsed, chosen}
-use Rattle.backend.specs.States.{queuesWrong, interfaceAtSetup, setUpOutcome}
+use Rattle.backend.specs.States.{HostState, queuesWrong, interfaceAtSetup, setUpOutcome}
 use Rattle.backend.specs.Streams.{messagesIn, restOf, Messages, none, more, settingsAfter, Served}
-use Rattle.backend.specs.declared.Interface.{Interface}
 use Rattle.backend.proofs.Queues.{good-queue}
 use Rattle.backend.proofs.Falls.{messages-whole}
 use Rattle.ring.specs.Reading.{messageLength}
@@ -95,7 +93,7 @@ unfolding settingsAfter
 good-after s ms none good = good
 good-after s ms (more m others long whole) good = good-after (carriedMessage s m [] .settings) others whole (good-carried s m good long)
 
-set-up-value : (q : ℕ) (i : Interface) → setUpOutcome q ≡ value i → (1 ≤ q) × (q ≤ maxQueues) × (i ≡ interfaceAtSetup q)
+set-up-value : (q : ℕ) (i : HostState) → setUpOutcome q ≡ value i → (1 ≤ q) × (q ≤ maxQueues) × (i ≡ interfaceAtSetup q)
 unfolding setUpOutcome
 set-up-value q i e =
     let x = test-value (leb 1 q && leb q maxQueues) (interfaceAtSetup q) i queuesWrong e in
@@ -107,14 +105,14 @@ pub settings-as-host : (q : ℕ) (xs : List ℕ) (s : Settings) → settingsOutc
     → (1 ≤ q) × (q ≤ maxQueues) × (s ≡ settingsAfter (settingsAtSetup q) (messagesIn xs))
 unfolding settingsOutcome settingsFrom
 settings-as-host q xs s e =
-    let made = then-value (setUpOutcome q) (λ (i : Interface). settingsFrom (i .settings) xs) s e in
+    let made = then-value (setUpOutcome q) (λ (i : HostState). settingsFrom (i .settings) xs) s e in
     let bounds = set-up-value q (made .0) (made .1) in
     let after = settingsAfter (made .0 .settings) (messagesIn xs) in
     let passes = eqb (length (restOf xs)) 0 && allSucceed (made .0 .settings) (messagesIn xs) in
     let is = test-value passes after s settingsWrong (made .2) .1 in
-    (bounds .0, bounds .1, sym is ∙ ap (λ (i : Interface). settingsAfter (i .settings) (messagesIn xs)) (bounds .2))
+    (bounds .0, bounds .1, sym is ∙ ap (λ (i : HostState). settingsAfter (i .settings) (messagesIn xs)) (bounds .2))
 
-pub settings-served : (q : ℕ) (xs : List ℕ) (s : Settings) (i : Interface) (written : List ℕ) → settingsOutcome (q ∷ xs) ≡ value s
+pub settings-served : (q : ℕ) (xs : List ℕ) (s : Settings) (i : HostState) (written : List ℕ) → settingsOutcome (q ∷ xs) ≡ value s
     → Served q i xs written → i .settings ≡ s
 settings-served q xs s i written e served = served .settings ∙ sym (settings-as-host q xs s e .2)
 

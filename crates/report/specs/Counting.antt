@@ -5,7 +5,7 @@ use mathlib.Core.Bool.{Bool, true, false, cond}
 use Prim.Native.Nat.{ℕ, zero, suc, _+_}
 use lib.ListN.{length}
 use lib.Dec.{eqb}
-use Rattle.messages.specs.declared.Settings.{Settings}
+use Rattle.messages.specs.Settings.{Settings}
 use Rattle.steering.specs.Steering.{Choice, unhashed, hashed, queueIn}
 use Rattle.backend.specs.States.{steeredBy}
 use Rattle.capture.specs.Records.{capturedOctets}

@@ -5,14 +5,29 @@ use mathlib.Core.List.{List}
 use mathlib.Core.Bool.{cond}
 use Prim.Native.Nat.{ℕ, _+_, _^_, _≤_, _<_}
 use lib.ListN.{length, getD, take, drop, set}
-use Rattle.octets.specs.Outcome.{refused}
+use Rattle.octets.specs.Outcome.{refused, placed, itself}
 use Rattle.messages.specs.Wire.{maxPayload}
-use Rattle.messages.specs.Settings.{maxQueues, Good}
-use Rattle.messages.specs.declared.Settings.{Settings}
+use Rattle.messages.specs.Settings.{Settings, maxQueues, settingsOf, Good}
+use Rattle.messages.specs.Requests.{Carried, ackStatus}
 use Rattle.steering.specs.Steering.{Choice, queueIn}
+use Rattle.backend.specs.States.{interfaceAtSetup, setUpOutcome}
 use Rattle.report.specs.Loading.{settingsWrong, settingsFrom}
 use Rattle.report.specs.Counting.{isUnhashed}
 use Rattle.report.specs.declared.Counts.{Counts}
+use Rattle.report.specs.declared.load.Held.{Held}
+
+-- the settings that are held while a file is read
+abbrev pub settingsHeld : Held → Settings
+settingsHeld h = settingsOf (h .queues) (h .flags) (h .key) (h .entries) (h .count)
+
+-- the settings that setup leaves: where it is refused, those of one queue
+abbrev pub settingsSetUp : ℕ → Settings
+settingsSetUp queues = placed itself (setUpOutcome queues) (interfaceAtSetup 1) .settings
+
+-- a message carried out: what it is acked with, and what it leaves
+pub record LeavesAcked (c : Carried) (status : ℕ) (left : Settings) : Type 0 where
+  pub acked : status ≡ ackStatus c
+  pub leaves : left ≡ c .settings
 
 -- octets that begin with a message of n octets, which leaves the settings `left`; n is 0 where it is refused
 pub record CarriesFirst (s : Settings) (xs : List ℕ) (n : ℕ) (left : Settings) : Type 0 where

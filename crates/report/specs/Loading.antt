@@ -8,10 +8,9 @@ use lib.Dec.{eqb}
 use Rattle.octets.specs.Outcome.{Outcome, value, refused, andThen}
 use Rattle.messages.specs.Wire.{success}
 use Rattle.messages.specs.Requests.{ackStatus, carriedMessage}
-use Rattle.messages.specs.declared.Settings.{Settings}
-use Rattle.backend.specs.States.{queuesWrong, setUpOutcome}
+use Rattle.messages.specs.Settings.{Settings}
+use Rattle.backend.specs.States.{HostState, queuesWrong, setUpOutcome}
 use Rattle.backend.specs.Streams.{messagesIn, restOf, settingsAfter}
-use Rattle.backend.specs.declared.Interface.{Interface}
 
 -- refusal 22: a settings message cut short or acked with a nonzero status
 abbrev pub settingsWrong : ℕ
@@ -30,4 +29,4 @@ settingsFrom s xs =
 -- the settings of a file: refusal 6 for a bad or missing queue count, then 22
 unfoldable pub settingsOutcome : List ℕ → Outcome Settings
 settingsOutcome [] = refused queuesWrong
-settingsOutcome (queues ∷ xs) = andThen (setUpOutcome queues) (λ (i : Interface). settingsFrom (i .settings) xs)
+settingsOutcome (queues ∷ xs) = andThen (setUpOutcome queues) (λ (i : HostState). settingsFrom (i .settings) xs)

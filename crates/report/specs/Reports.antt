@@ -6,7 +6,7 @@ use Prim.Native.Nat.{ℕ}
 use lib.ListN.{length, getD}
 use lib.Dec.{leb}
 use Rattle.octets.specs.Outcome.{Outcome, value, refused, andThen}
-use Rattle.messages.specs.declared.Settings.{Settings}
+use Rattle.messages.specs.Settings.{Settings}
 use Rattle.capture.specs.Header.{headerOutcome}
 use Rattle.capture.specs.Records.{recordsOutcome}
 use Rattle.capture.specs.declared.Link.{Link}

@@ -9,27 +9,26 @@ ghost use Rattle.steering.specs.Steering.{choiceOf, queueIn, steered};
 ghost use Rattle.capture.specs.Packets.{ipPart};
 ghost use Rattle.report.specs.Counting.{isUnhashed};
 ghost use Rattle.report.specs.Reports.{maxFile, reportOver, reportOf};
-ghost use Rattle.report.specs.Inner.{addedAt, HasRoom, CountsOne, countsOf};
+ghost use Rattle.report.specs.Inner.{settingsHeld, addedAt, HasRoom, CountsOne, countsOf};
 use crate::Answer;
 use crate::Counts;
 use crate::MAX_QUEUES;
 use crate::Report;
+use crate::load::Held;
 use capture::CAPTURE_HEADER;
 use capture::Link;
 use capture::RECORD_WRONG;
 use capture::Step;
 use messages::MAX_ENTRIES;
-use messages::Settings;
 use steering::Steered;
 use toeplitz::KEY_LENGTH;
 
-pub(crate) fn count_records(settings: Settings, link: Link, captured: &[u8]) -> Report
-    requires { ⌜ Good settings × (length (now captured) ≤ maxFile) ⌝ }
-    ensures { λ r. ⌜ (reportOf r ≡ reportOver settings link (now (captured .entry))) × (r .counts .queues ≤ maxQueues) ⌝ }
+pub(crate) fn count_records(settings: Held, link: Link, captured: &[u8]) -> Report
+    requires { ⌜ Good (settingsHeld settings) × (length (now captured) ≤ maxFile) ⌝ }
+    ensures { λ r. ⌜ (reportOf r ≡ reportOver (settingsHeld settings) link (now (captured .entry))) × (r .counts .queues ≤ maxQueues) ⌝ }
 {
-    let mapping = settings.mapping;
     let key = settings.key;
-    let entries = mapping.entries;
+    let entries = settings.entries;
     let mut packets = [0u32; MAX_QUEUES];
     let mut octets = [0u32; MAX_QUEUES];
     let mut unhashed: u32 = 0;
@@ -44,7 +43,7 @@ pub(crate) fn count_records(settings: Settings, link: Link, captured: &[u8]) -> 
                     settings.flags,
                     &key,
                     &entries,
-                    mapping.count,
+                    settings.count,
                     link,
                     &captured[start..end],
                     &mut packets,
@@ -118,7 +117,7 @@ fn count_record(
         (length (now (frame .entry))) (now (packets .entry)) (now (octets .entry)) (now (packets .exit)) (now (octets .exit)) r ⌝ }
 {
     let packet = capture::ip_part(link, frame);
-    let choice = backend::steer_in_place(flags, key, entries, count, packet);
+    let choice = backend::steer(flags, key, entries, count, packet);
     let on = queue(choice);
     let length = frame.len() as u32;
     add(packets, on, 1);

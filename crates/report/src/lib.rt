@@ -4,6 +4,7 @@ ghost use Prim.Native.Nat.{_≤_};
 ghost use lib.ListN.{length};
 ghost use Rattle.messages.specs.Settings.{maxQueues, Good};
 ghost use Rattle.report.specs.Reports.{maxFile, reportUnder, reportOn, reportOf};
+ghost use Rattle.report.specs.Inner.{settingsHeld};
 
 mod count;
 mod load;
@@ -12,8 +13,8 @@ use capture::HEADER_WRONG;
 use capture::HeaderAnswer;
 use count::count_records;
 use count::refused;
+use load::Held;
 use load::load_settings;
-use messages::Settings;
 
 // The refusals of the files: too long, no good queue count, and a message cut short or not acked with success.
 pub const FILE_TOO_LONG: u8 = 23;
@@ -69,9 +70,9 @@ pub fn report_on(settings: &[u8], captured: &[u8]) -> Report
 }
 
 // The same under settings that are loaded.
-fn report_under(settings: Settings, captured: &[u8]) -> Report
-    requires { ⌜ Good settings × (length (now captured) ≤ maxFile) ⌝ }
-    ensures { λ r. ⌜ (reportOf r ≡ reportUnder settings (now (captured .entry))) × (r .counts .queues ≤ maxQueues) ⌝ }
+fn report_under(settings: Held, captured: &[u8]) -> Report
+    requires { ⌜ Good (settingsHeld settings) × (length (now captured) ≤ maxFile) ⌝ }
+    ensures { λ r. ⌜ (reportOf r ≡ reportUnder (settingsHeld settings) (now (captured .entry))) × (r .counts .queues ≤ maxQueues) ⌝ }
 {
     let header = capture::header(captured);
     match header {

@@ -2,45 +2,110 @@
 ghost use mathlib.Core.Path.{_≡_};
 ghost use Prim.Native.Nat.{_≤_, _<_};
 ghost use lib.ListN.{length, getD};
+ghost use Rattle.octets.specs.Outcome.{numberOf};
 ghost use Rattle.messages.specs.Wire.{maxPayload};
 ghost use Rattle.messages.specs.Settings.{Good};
+ghost use Rattle.messages.specs.Requests.{carriedOut};
+ghost use Rattle.backend.specs.States.{setUpOutcome, setUpNumber};
 ghost use Rattle.report.specs.Loading.{settingsFrom, settingsOutcome};
 ghost use Rattle.report.specs.Reports.{outcomeOf};
-ghost use Rattle.report.specs.Inner.{CarriesFirst, Keeps};
+ghost use Rattle.report.specs.Inner.{settingsHeld, settingsSetUp, LeavesAcked, CarriesFirst, Keeps};
 use crate::Answer;
 use crate::QUEUES_WRONG;
 use crate::SETTINGS_WRONG;
+use backend::ENTRY_COUNT;
+use backend::FLAGS;
+use backend::NUMBERS;
+use backend::QUEUES;
+use backend::SetUpAnswer;
 use messages::HEADER;
+use messages::MAX_ACK;
+use messages::MAX_ENTRIES;
 use messages::MAX_PAYLOAD;
 use messages::SIZE_AT;
 use messages::SUCCESS;
-use messages::Settings;
+use toeplitz::KEY_LENGTH;
+
+// The settings of a file while it is read.
+pub struct Held {
+    pub queues: u8,
+    pub flags: u8,
+    pub count: u8,
+    pub key: [u8; KEY_LENGTH],
+    pub entries: [u8; MAX_ENTRIES],
+}
 
 // What a file comes to. Where it is refused, the settings are a placeholder.
 pub struct Loaded {
     pub answer: Answer,
-    pub settings: Settings,
+    pub settings: Held,
+}
+
+// What setup comes to. Where it is refused, the settings are a placeholder.
+pub struct SetUp {
+    pub answer: SetUpAnswer,
+    pub settings: Held,
 }
 
 // What the first message comes to: how many octets it has, or 0 if it is refused; and the settings left.
 pub struct First {
     pub length: usize,
-    pub settings: Settings,
+    pub settings: Held,
+}
+
+// What a message comes to: the status of its ack, and the settings left.
+pub struct Acked {
+    pub status: u64,
+    pub settings: Held,
 }
 
 pub(crate) fn load_settings(file: &[u8]) -> Loaded
-    ensures { λ r. ⌜ (outcomeOf (r .answer) (r .settings) ≡ settingsOutcome (now (file .entry))) × Good (r .settings) ⌝ }
+    ensures { λ r. ⌜ (outcomeOf (r .answer) (settingsHeld (r .settings)) ≡ settingsOutcome (now (file .entry)))
+        × Good (settingsHeld (r .settings)) ⌝ }
 {
-    let set_up = backend::set_up(queue_count(file));
-    let interface = set_up.interface;
-    let settings = interface.settings;
-    if !set_up.made {
-        return Loaded {
+    let set_up = set_up(queue_count(file));
+    let answer = set_up.answer;
+    let settings = set_up.settings;
+    match answer {
+        SetUpAnswer::Made => carry_out_all(settings, &file[1..]),
+        SetUpAnswer::Queues => Loaded {
             answer: Answer::Refused(QUEUES_WRONG),
             settings,
-        };
+        },
     }
-    carry_out_all(settings, &file[1..])
+}
+
+// The settings of an interface that is set up with this many queues, as the library does it.
+fn set_up(queues: u32) -> SetUp
+    ensures { λ r. ⌜ (setUpNumber (r .answer) ≡ numberOf (setUpOutcome queues))
+        × (settingsHeld (r .settings) ≡ settingsSetUp queues) ⌝ }
+{
+    // The placeholder, one queue and one entry, which stays where the number is refused.
+    let mut numbers: [u64; NUMBERS] = [1, 0, 1, 0, 0, 0, 0, 0];
+    let mut header = [0u8; HEADER];
+    let mut payload = [0u8; MAX_PAYLOAD];
+    let mut ack = [0u8; MAX_ACK];
+    let mut key = [0u8; KEY_LENGTH];
+    let mut entries = [0u8; MAX_ENTRIES];
+    let answer = backend::set_up(
+        &mut numbers,
+        &mut header,
+        &mut payload,
+        &mut ack,
+        &mut key,
+        &mut entries,
+        queues,
+    );
+    SetUp {
+        answer,
+        settings: Held {
+            queues: numbers[QUEUES] as u8,
+            flags: numbers[FLAGS] as u8,
+            count: numbers[ENTRY_COUNT] as u8,
+            key,
+            entries,
+        },
+    }
 }
 
 // The first octet. A missing one counts as 0, which is no queue count.
@@ -60,9 +125,10 @@ fn wide(x: u8) -> u32
 }
 
 // Carries out the messages one after the other, up to the first that is refused.
-fn carry_out_all(settings: Settings, file: &[u8]) -> Loaded
-    requires { ⌜ Good settings ⌝ }
-    ensures { λ r. ⌜ (outcomeOf (r .answer) (r .settings) ≡ settingsFrom settings (now (file .entry))) × Good (r .settings) ⌝ }
+fn carry_out_all(settings: Held, file: &[u8]) -> Loaded
+    requires { ⌜ Good (settingsHeld settings) ⌝ }
+    ensures { λ r. ⌜ (outcomeOf (r .answer) (settingsHeld (r .settings)) ≡ settingsFrom (settingsHeld settings) (now (file .entry)))
+        × Good (settingsHeld (r .settings)) ⌝ }
 {
     let mut left = settings;
     let mut at: usize = 0;
@@ -85,9 +151,9 @@ fn carry_out_all(settings: Settings, file: &[u8]) -> Loaded
 }
 
 // Carries out the message that these octets begin with.
-fn carry_out_first(settings: Settings, file: &[u8]) -> First
-    requires { ⌜ Good settings × (0 < length (now file)) ⌝ }
-    ensures { λ r. ⌜ CarriesFirst settings (now (file .entry)) (r .length) (r .settings) ⌝ }
+fn carry_out_first(settings: Held, file: &[u8]) -> First
+    requires { ⌜ Good (settingsHeld settings) × (0 < length (now file)) ⌝ }
+    ensures { λ r. ⌜ CarriesFirst (settingsHeld settings) (now (file .entry)) (r .length) (settingsHeld (r .settings)) ⌝ }
 {
     if file.len() < HEADER {
         return none_carried(settings);
@@ -99,11 +165,9 @@ fn carry_out_first(settings: Settings, file: &[u8]) -> First
         return none_carried(settings);
     }
     let payload = kept(&file[HEADER..end]);
-    let carried = messages::carry_out(settings, kind, size, &payload);
-    let left = carried.settings;
-    let ack = carried.ack;
-    let acked = ack.octets;
-    if octets::read_u64(&acked, HEADER) != SUCCESS as u64 {
+    let acked = carry_out(settings, kind, size, &payload);
+    let left = acked.settings;
+    if acked.status != SUCCESS as u64 {
         return none_carried(left);
     }
     First {
@@ -112,8 +176,38 @@ fn carry_out_first(settings: Settings, file: &[u8]) -> First
     }
 }
 
+// Carries out a message of which this payload is kept. The library changes the key and the entries that it is lent, here copies.
+fn carry_out(settings: Held, kind: u32, size: u32, payload: &[u8; MAX_PAYLOAD]) -> Acked
+    ensures { λ r. ⌜ LeavesAcked (carriedOut (settingsHeld settings) kind size (now (payload .entry))) (r .status) (settingsHeld (r .settings)) ⌝ }
+{
+    let mut key = settings.key;
+    let mut entries = settings.entries;
+    let mut ack = [0u8; MAX_ACK];
+    let left = messages::carry_out(
+        settings.queues,
+        settings.flags,
+        settings.count,
+        &mut key,
+        &mut entries,
+        kind,
+        size,
+        payload,
+        &mut ack,
+    );
+    Acked {
+        status: octets::read_u64(&ack, HEADER),
+        settings: Held {
+            queues: settings.queues,
+            flags: left.flags,
+            count: left.count,
+            key,
+            entries,
+        },
+    }
+}
+
 // The first message is refused.
-fn none_carried(settings: Settings) -> First
+fn none_carried(settings: Held) -> First
     ensures { λ r. ⌜ r ≡ record { length = 0; settings = settings } ⌝ }
 {
     First {

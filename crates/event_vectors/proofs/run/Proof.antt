@@ -1,32 +1,19 @@
--- `event_vectors::run` ends and reads no octet outside: each case's body stands behind its start. Every case leaves a good
--- interface.
+-- `event_vectors::run` ends and reads no octet outside: each case ends behind its start. Every case leaves a good interface.
 -- Assumes nothing.
 use mathlib.Core.Path.{_≡_}
 use Prim.Native.Nat.{_≤_, _-_}
-use native.Mathlib.Omega.{arith}
 use borrow.Author.Needs.{needs}
 use lib.ListN.{length}
-use Rattle.cases.specs.Cases.{Within}
-use Rattle.cases.specs.declared.Case.the-variants.{Body}
-use Rattle.backend.specs.States.{Good}
+use Rattle.backend.specs.States.{Good, interfaceIn}
 use Rattle.event_vectors.proofs.run.Statement.{statement}
 use Rattle.event_vectors.proofs.run.Tie as tie
 
 abbrev Inv-loop : tie.InvT-loop
-Inv-loop cases page₀ interface₀ at₀ page interface at = (at ≤ length cases) × (length page ≡ length page₀) × Good interface
+Inv-loop numbers₀ header₀ payload₀ ack₀ key₀ entries₀ page₀ cases at₀ numbers header payload ack key entries page at =
+    (at ≤ length cases) × (length page ≡ 4160) × Good (interfaceIn numbers header payload ack key entries)
 
 abbrev μ-loop : tie.MeasureT-loop
-μ-loop cases page₀ interface₀ at₀ page interface at = length cases - at
-
--- where the case was found whole
-module _ (d : tie.After-case Inv-loop μ-loop) where
-  body : Within (length (d .before .before .before .before .before .before .before .before .before .args .cases .now))
-      (d .before .before .before .before .loop .at) (Body (d .case .given .0 .0) (d .case .given .0 .1 .0))
-  body = rw (d .case .given .1) at (d .before .before .case-at .ensures)
-
-loop-again : tie.Need-loop-again Inv-loop μ-loop
-loop-again c =
-    (omega (arith, body (c .before .before .before .before .before .before .before)), search needs, search needs)
+μ-loop numbers₀ header₀ payload₀ ack₀ key₀ entries₀ page₀ cases at₀ numbers header payload ack key entries page at = length cases - at
 
 pub run-spec : {M : Type 1} → statement M
 run-spec =
@@ -34,20 +21,13 @@ run-spec =
     (tie.spec
     Inv-loop
     μ-loop
-    (λ c κs. search needs)
     (λ c. search needs)
     (λ c κs. search needs)
     (λ c. search needs)
     (λ c. search needs)
-    (λ c. omega (arith, body (c .before .before .before)))
-    (λ c. omega (arith, body (c .before .before .before)))
-    (λ c. omega (arith, body (c .before .before .before)))
-    (λ c κs. search needs)
-    (λ c. omega (arith, body (c .before .before .before .before .before .before .before)))
-    loop-again
     (λ c. search needs)
-    (λ c κs. search needs)
+    (λ c κs. (search needs, search needs))
     (λ c. search needs)
-    (λ c. search needs)
+    (λ c. (search needs, search needs, search needs))
     (λ c. search needs)
     (λ c. search needs))

@@ -1,34 +1,38 @@
--- `guest_vectors::run` ends and reads no octet outside: each case's body stands behind its start. Every case leaves both
--- ends good.
+-- `guest_vectors::run` ends and reads no octet outside: each case ends behind its start. Every case leaves both ends good.
 -- Assumes nothing.
 use mathlib.Core.Path.{_≡_}
 use Prim.Native.Nat.{_≤_, _-_}
 use native.Mathlib.Omega.{arith}
 use borrow.Author.Needs.{needs}
 use lib.ListN.{length}
-use Rattle.cases.specs.Cases.{Within}
-use Rattle.cases.specs.declared.Case.the-variants.{Body}
-use Rattle.backend.specs.States.{Good}
-use Rattle.frontend.specs.Guest.{Good as GoodGuest}
+use Rattle.backend.specs.States.{Good, interfaceIn}
+use Rattle.frontend.specs.Guest.{Good as GoodGuest, guestIn}
 use Rattle.guest_vectors.proofs.run.Statement.{statement}
 use Rattle.guest_vectors.proofs.run.Tie as tie
 
 abbrev Inv-loop : tie.InvT-loop
-Inv-loop cases page₀ ends₀ at₀ page ends at =
-    (at ≤ length cases) × (length page ≡ length page₀) × GoodGuest (ends .guest) × Good (ends .interface)
+Inv-loop _ _ _ _ _ _ _ _ _ _ _ cases _ own request ackHeader ackPayload numbers header payload ack key entries page at =
+    (at ≤ length cases) × (length page ≡ 4160) × GoodGuest (guestIn own request ackHeader ackPayload)
+    × Good (interfaceIn numbers header payload ack key entries)
 
 abbrev μ-loop : tie.MeasureT-loop
-μ-loop cases page₀ ends₀ at₀ page ends at = length cases - at
+μ-loop _ _ _ _ _ _ _ _ _ _ _ cases _ own request ackHeader ackPayload numbers header payload ack key entries page at = length cases - at
 
--- where the case was found whole
-module _ (d : tie.After-case Inv-loop μ-loop) where
-  body : Within (length (d .before .before .before .before .before .before .before .before .args .cases .now))
-      (d .before .before .before .before .loop .at) (Body (d .case .given .0 .0) (d .case .given .0 .1 .0))
-  body = rw (d .case .given .1) at (d .before .before .case-at .ensures)
+-- where the guest's part in a case is done, from where the host's part is too; and where the case was taken
+abbrev guest-done : tie.After-answer-host Inv-loop μ-loop → tie.After-answer Inv-loop μ-loop
+guest-done d = d .before .before .before .before .before .before .before .before .before .before .before
+
+abbrev taken : tie.After-answer-host Inv-loop μ-loop → tie.After-take-case Inv-loop μ-loop
+taken d = guest-done d .before .before .before .before .before .before .before
 
 loop-again : tie.Need-loop-again Inv-loop μ-loop
 loop-again c =
-    (omega (arith, body (c .before .before .before .before .before .before .before)), search needs, search needs, search needs)
+    let d = c .before .before in (
+      omega (arith, taken d .take-case .ensures),
+      omega (arith, guest-done d .answer .kept, taken d .before .before .loop .inv .1),
+      guest-done d .answer .ensures,
+      d .answer-host .ensures,
+    )
 
 pub run-spec : {M : Type 1} → statement M
 run-spec =
@@ -36,20 +40,15 @@ run-spec =
     (tie.spec
     Inv-loop
     μ-loop
-    (λ c κs. search needs)
     (λ c. search needs)
     (λ c κs. search needs)
     (λ c. search needs)
     (λ c. search needs)
-    (λ c. omega (arith, body (c .before .before .before)))
-    (λ c. omega (arith, body (c .before .before .before)))
-    (λ c. omega (arith, body (c .before .before .before)))
+    (λ c. search needs)
+    (λ c κs. (search needs, search needs))
     (λ c κs. search needs)
-    (λ c. omega (arith, body (c .before .before .before .before .before .before .before)))
+    (λ c κs. (search needs, search needs))
+    (λ c. omega (arith, taken (c .before .before)))
     loop-again
-    (λ c. search needs)
-    (λ c κs. search needs)
-    (λ c. search needs)
-    (λ c. search needs)
     (λ c. search needs)
     (λ c. search needs))

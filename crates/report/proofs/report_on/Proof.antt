@@ -2,6 +2,7 @@
 -- Assumes nothing.
 use mathlib.Core.Path.{sym, ap, _∙_}
 use Rattle.report.specs.Reports.{outcomeOf}
+use Rattle.report.specs.Inner.{settingsHeld}
 use Rattle.report.specs.declared.Answer.{Answer}
 use Rattle.report.proofs.Orders.{long-settings, long-capture, settings-refused, settings-loaded}
 use borrow.Author.Needs.{needs}
@@ -24,8 +25,9 @@ returns-3 c =
     let d = c .before .before .before in
     let a = d .before .before .before .before .before .args in
     let loaded = d .load-settings in
-    let is = sym (ap (λ (x : Answer). outcomeOf x (loaded .result .settings)) (c .before .enum-told .given .1)) ∙ loaded .ensures .0 in
-    let under = settings-loaded (a .settings .now) (a .captured .now) (d .before .before .if1 .left) (d .before .if2 .left) (loaded .result .settings) is in
+    let s = settingsHeld (loaded .result .settings) in
+    let is = sym (ap (λ (x : Answer). outcomeOf x s) (c .before .enum-told .given .1)) ∙ loaded .ensures .0 in
+    let under = settings-loaded (a .settings .now) (a .captured .now) (d .before .before .if1 .left) (d .before .if2 .left) s is in
     (c .report-under .ensures .0 ∙ under, c .report-under .ensures .1)
 
 returns-4 : tie.Need-returns-4
@@ -33,7 +35,8 @@ returns-4 c =
     let d = c .before .before .before .before in
     let a = d .before .before .before .before .before .args in
     let loaded = d .load-settings in
-    let is = sym (ap (λ (x : Answer). outcomeOf x (loaded .result .settings)) (c .before .before .answer .given .1)) ∙ loaded .ensures .0 in
+    let s = settingsHeld (loaded .result .settings) in
+    let is = sym (ap (λ (x : Answer). outcomeOf x s) (c .before .before .answer .given .1)) ∙ loaded .ensures .0 in
     let none = settings-refused (a .settings .now) (a .captured .now) (d .before .before .if1 .left) (d .before .if2 .left) _ is in
     (c .refused3 .ensures .0 ∙ none, c .refused3 .ensures .1)
 

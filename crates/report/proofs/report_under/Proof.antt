@@ -2,6 +2,7 @@
 -- Assumes nothing.
 use mathlib.Core.Path.{sym, ap, _∙_}
 use Rattle.capture.specs.Header.{headerOutcomeOf}
+use Rattle.report.specs.Inner.{settingsHeld}
 use Rattle.report.proofs.Orders.{header-refused, header-read}
 use borrow.Author.Needs.{needs}
 use Rattle.report.proofs.report_under.Statement.{statement}
@@ -12,14 +13,14 @@ returns c =
     let d = c .before .before .before .before in
     let a = d .before .before .args in
     let read = sym (ap headerOutcomeOf (c .before .before .header2 .given .1)) ∙ d .header .ensures in
-    (c .count-records .ensures .0 ∙ header-read (a .settings) (a .captured .now) _ read, c .count-records .ensures .1)
+    (c .count-records .ensures .0 ∙ header-read (settingsHeld (a .settings)) (a .captured .now) _ read, c .count-records .ensures .1)
 
 returns-2 : tie.Need-returns-2
 returns-2 c =
     let d = c .before .before .before in
     let a = d .before .before .args in
     let read = sym (ap headerOutcomeOf (c .before .enum-told .given .1)) ∙ d .header .ensures in
-    (c .refused .ensures .0 ∙ header-refused (a .settings) (a .captured .now) 14 read, c .refused .ensures .1)
+    (c .refused .ensures .0 ∙ header-refused (settingsHeld (a .settings)) (a .captured .now) 14 read, c .refused .ensures .1)
 
 pub report-under-spec : {M : Type 1} → statement M
 report-under-spec =

@@ -13,7 +13,7 @@ use Rattle.report.proofs.count.count_record.Statement.{statement}
 use Rattle.report.proofs.count.count_record.Tie as tie
 
 -- where the packet was steered
-module _ (d : tie.After-steer-in-place) where
+module _ (d : tie.After-steer) where
   abbrev start-of : tie.Start
   start-of = d .before .before .before
 
@@ -22,12 +22,12 @@ module _ (d : tie.After-steer-in-place) where
       let a = start-of .args in
       steered (a .flags) (a .key .now) (take (a .count) (a .entries .now)) (ipPart (a .link) (a .frame .now))
 
-  chosen : choiceOf (d .steer-in-place .result) ≡ choice
+  chosen : choiceOf (d .steer .result) ≡ choice
   chosen =
       let a = start-of .args in
-      d .steer-in-place .ensures ∙ ap (steered (a .flags) (a .key .now) (take (a .count) (a .entries .now))) (d .before .ip-part .ensures)
+      d .steer .ensures ∙ ap (steered (a .flags) (a .key .now) (take (a .count) (a .entries .now))) (d .before .ip-part .ensures)
 
-  on : (q : ℕ) → q ≡ queueIn (choiceOf (d .steer-in-place .result)) → q ≡ queueIn choice
+  on : (q : ℕ) → q ≡ queueIn (choiceOf (d .steer .result)) → q ≡ queueIn choice
   on q e = e ∙ ap queueIn chosen
 
 add-requires : tie.Need-add-requires

@@ -9,8 +9,7 @@ use lib.ListN.{length, take, drop, length-drop}
 use lib.Seq.{length-take-le}
 use borrow.Author.Needs.{needs}
 use Rattle.octets.specs.Outcome.{value}
-use Rattle.messages.specs.Settings.{maxQueues}
-use Rattle.messages.specs.declared.Settings.{Settings}
+use Rattle.messages.specs.Settings.{Settings, maxQueues}
 use Rattle.steering.specs.Steering.{queueIn}
 use Rattle.backend.proofs.Queues.{good-queue}
 use Rattle.capture.specs.Header.{captureHeader, orderOf}
@@ -20,7 +19,7 @@ use Rattle.capture.specs.declared.Link.{Link}
 use Rattle.capture.proofs.Found.{IsRecord, found-record, found-end, found-bad}
 use Rattle.capture.proofs.Theorems.{records-fill}
 use Rattle.report.specs.Counting.{choiceFor}
-use Rattle.report.specs.Inner.{HasRoom}
+use Rattle.report.specs.Inner.{settingsHeld, HasRoom}
 use Rattle.report.proofs.Orders.{bad-records, good-records}
 use Rattle.report.proofs.Counters.{Counting, counting-none, counting-room, counting-next, counting-fits, counting-bad, counting-all, counting-done}
 use Rattle.report.proofs.count.count_records.Statement.{statement}
@@ -34,10 +33,10 @@ abbrev all-of : List ℕ → Fall
 all-of captured = rest-of captured captureHeader
 
 abbrev Inv-loop : tie.InvT-loop
-Inv-loop s link xs mapping key entries ps₀ os₀ u₀ p₀ o₀ at₀ ps os u p o at = Counting s link (all-of xs) (rest-of xs at) ps os u p o
+Inv-loop s link xs key entries ps₀ os₀ u₀ p₀ o₀ at₀ ps os u p o at = Counting (settingsHeld s) link (all-of xs) (rest-of xs at) ps os u p o
 
 abbrev μ-loop : tie.MeasureT-loop
-μ-loop s link xs mapping key entries ps₀ os₀ u₀ p₀ o₀ at₀ ps os u p o at = length xs - at
+μ-loop s link xs key entries ps₀ os₀ u₀ p₀ o₀ at₀ ps os u p o at = length xs - at
 
 -- where a record was found
 module _ (d : tie.After-known-told Inv-loop μ-loop) where
@@ -45,10 +44,10 @@ module _ (d : tie.After-known-told Inv-loop μ-loop) where
   loop-of = d .before .before .before .before
 
   abbrev start-of : tie.Start Inv-loop μ-loop
-  start-of = loop-of .before .before .before .before .before
+  start-of = loop-of .before .before .before .before
 
   abbrev settings-of : Settings
-  settings-of = start-of .args .settings
+  settings-of = settingsHeld (start-of .args .settings)
 
   abbrev link-of : Link
   link-of = start-of .args .link
@@ -121,7 +120,7 @@ module _ (c : tie.After-count-record Inv-loop μ-loop) where
       counting-fits (settings-of told) (link-of told) (all-of (capture-of told)) (rest-of (capture-of told) (end-of told)) _ _ _ _ _ next (most told)
 
 loop-holds : tie.Need-loop-holds Inv-loop μ-loop
-loop-holds c = let a = c .before .before .before .before .args in counting-none (a .settings) (a .link) (all-of (a .captured .now))
+loop-holds c = let a = c .before .before .before .args in counting-none (settingsHeld (a .settings)) (a .link) (all-of (a .captured .now))
 
 sub-count-record : tie.Need-sub-count-record Inv-loop μ-loop
 sub-count-record c = found (c .before .before) .forward
@@ -166,18 +165,18 @@ loop-again c = next c
 returns : tie.Need-returns Inv-loop μ-loop
 returns c =
     let at = c .before .before .before .before in
-    let a = at .before .before .before .before .before .args in
+    let a = at .before .before .before .before .args in
     let xs = a .captured .now in
     let l = at .loop in
     let bad = found-bad xs (l .at) 15 (sym (c .before .before .before .record-at .ensures) ∙ ap stepOutcomeOf (c .before .enum-told2 .given .1)) in
-    let all = counting-bad (a .settings) (a .link) (all-of xs) (rest-of xs (l .at)) _ _ _ _ _ (l .inv) 15 bad in
-    (c .refused .ensures .0 ∙ bad-records (a .settings) (a .link) xs all, c .refused .ensures .1)
+    let all = counting-bad (settingsHeld (a .settings)) (a .link) (all-of xs) (rest-of xs (l .at)) _ _ _ _ _ (l .inv) 15 bad in
+    (c .refused .ensures .0 ∙ bad-records (settingsHeld (a .settings)) (a .link) xs all, c .refused .ensures .1)
 
 returns-2 : tie.Need-returns-2 Inv-loop μ-loop
 returns-2 c =
     let at = c .before .before .before .before in
-    let start = at .before .before .before .before .before in
-    let s = start .args .settings in
+    let start = at .before .before .before .before in
+    let s = settingsHeld (start .args .settings) in
     let link = start .args .link in
     let xs = start .args .captured .now in
     let l = at .loop in

@@ -8,12 +8,15 @@ use lib.Seq.{length-take-le}
 use borrow.Author.Needs.{needs}
 use Rattle.messages.specs.Settings.{Good}
 use Rattle.report.specs.Loading.{settingsFrom}
+use Rattle.report.specs.Inner.{settingsHeld}
 use Rattle.report.proofs.Firsts.{carry-end, carry-stop, carry-inside, carry-next}
 use Rattle.report.proofs.load.carry_out_all.Statement.{statement}
 use Rattle.report.proofs.load.carry_out_all.Tie as tie
 
 abbrev Inv-loop : tie.InvT-loop
-Inv-loop file left₀ at₀ left at = (at ≤ length file) × Good left × (settingsFrom left₀ file ≡ settingsFrom left (drop at file))
+Inv-loop file left₀ at₀ left at =
+    (at ≤ length file) × Good (settingsHeld left)
+    × (settingsFrom (settingsHeld left₀) file ≡ settingsFrom (settingsHeld left) (drop at file))
 
 abbrev μ-loop : tie.MeasureT-loop
 μ-loop file left₀ at₀ left at = length file - at
@@ -33,14 +36,16 @@ returns : tie.Need-returns Inv-loop μ-loop
 returns c =
     let at = c .before .before .before .before .before in
     let first = c .before .before .carry-out-first in
-    let stop = carry-stop _ (at .loop .left) (at .before .before .args .file .now) (at .loop .at) (at .loop .inv .2) _ _ (first .ensures) in
+    let file = at .before .before .args .file .now in
+    let stop = carry-stop _ (settingsHeld (at .loop .left)) file (at .loop .at) (at .loop .inv .2) _ _ (first .ensures) in
     (stop (c .if1 .taken), first .ensures .good)
 
 add-at : tie.Need-add-at Inv-loop μ-loop
 add-at c =
     let at = c .before .before .before .before .before in
     let first = c .before .before .carry-out-first .ensures in
-    let inside = carry-inside _ (at .loop .left) (at .before .before .args .file .now) (at .loop .at) (at .loop .inv .2) _ _ first (at .loop .inv .0) in
+    let file = at .before .before .args .file .now in
+    let inside = carry-inside _ (settingsHeld (at .loop .left)) file (at .loop .at) (at .loop .inv .2) _ _ first (at .loop .inv .0) in
     search needs
 
 loop-less : tie.Need-loop-less Inv-loop μ-loop
@@ -53,16 +58,16 @@ loop-again c =
     let at = c .before .before .before .before .before in
     let first = c .before .before .carry-out-first .ensures in
     let file = at .before .before .args .file .now in (
-      carry-inside _ (at .loop .left) file (at .loop .at) (at .loop .inv .2) _ _ first (at .loop .inv .0),
+      carry-inside _ (settingsHeld (at .loop .left)) file (at .loop .at) (at .loop .inv .2) _ _ first (at .loop .inv .0),
       first .good,
-      carry-next _ (at .loop .left) file (at .loop .at) (at .loop .inv .2) _ _ first (omega (arith, c .if1 .left)),
+      carry-next _ (settingsHeld (at .loop .left)) file (at .loop .at) (at .loop .inv .2) _ _ first (omega (arith, c .if1 .left)),
     )
 
 returns-2 : tie.Need-returns-2 Inv-loop μ-loop
 returns-2 c =
     let at = c .before in
     let past : length (at .before .before .args .file .now) ≤ at .loop .at = omega (arith, c .loop-test .left) in
-    (carry-end _ (at .loop .left) _ (at .loop .at) (at .loop .inv .2) past, at .loop .inv .1)
+    (carry-end _ (settingsHeld (at .loop .left)) _ (at .loop .at) (at .loop .inv .2) past, at .loop .inv .1)
 
 pub carry-out-all-spec : {M : Type 1} → statement M
 carry-out-all-spec =

@@ -1,19 +1,18 @@
 -- `report::load::carry_out_first` meets its contract: a message that is cut short or not acked with success is refused.
 -- Assumes nothing.
-use mathlib.Core.Path.{_≡_, sym, ap₂, subst, _∙_}
+use mathlib.Core.Path.{_≡_, ap₂, subst}
 use mathlib.Core.Bool.{true}
 use mathlib.Core.List.{List}
 use Prim.Native.Nat.{ℕ, _+_, _-_}
 use native.Mathlib.Omega.{arith}
 use lib.ListN.{length, take, drop}
 use borrow.Author.Tests.{le-leb, lt-leb}
-use Rattle.messages.specs.Wire.{headerSize, typeIn, sizeIn, success}
-use Rattle.messages.specs.Requests.{carriedOut}
-use Rattle.messages.specs.declared.Settings.{Settings}
-use Rattle.messages.proofs.Theorems.{ack-fits}
+use Rattle.messages.specs.Wire.{headerSize, typeIn, sizeIn}
+use Rattle.messages.specs.Requests.{Carried, carriedOut}
+use Rattle.messages.specs.Settings.{Settings}
 use Rattle.ring.specs.Reading.{messageLength}
 use Rattle.ring.specs.Streams.{beginsWhole}
-use Rattle.report.specs.Inner.{Keeps}
+use Rattle.report.specs.Inner.{settingsHeld, LeavesAcked, Keeps}
 use Rattle.report.proofs.Firsts.{first-cut, first-refused, first-done}
 use borrow.Author.Needs.{needs}
 use Rattle.report.proofs.load.carry_out_first.Statement.{statement}
@@ -25,7 +24,7 @@ module _ (d : tie.After-carry-out) where
   start-of = d .before .before .before .before .before .before .before .before .before
 
   abbrev settings-of : Settings
-  settings-of = start-of .args .settings
+  settings-of = settingsHeld (start-of .args .settings)
 
   abbrev file-of : List ℕ
   file-of = start-of .args .file .now
@@ -48,15 +47,19 @@ module _ (d : tie.After-carry-out) where
       let same : headerSize + n - headerSize ≡ sizeIn file-of = omega (arith, size) in
       subst (λ (k : ℕ). Keeps (take k (drop headerSize file-of)) kept-of) same (d .before .before .kept .ensures)
 
-  carried : d .carry-out .result ≡ carriedOut settings-of (typeIn file-of) (sizeIn file-of) kept-of
-  carried = d .carry-out .ensures ∙ ap₂ (λ (t n : ℕ). carriedOut settings-of t n kept-of) kind size
+  carried : let r = d .carry-out .result in
+      LeavesAcked (carriedOut settings-of (typeIn file-of) (sizeIn file-of) kept-of) (r .status) (settingsHeld (r .settings))
+  carried =
+      let r = d .carry-out .result in
+      subst (λ (x : Carried). LeavesAcked x (r .status) (settingsHeld (r .settings)))
+      (ap₂ (λ (t n : ℕ). carriedOut settings-of t n kept-of) kind size) (d .carry-out .ensures)
 
 returns : tie.Need-returns
 returns c =
     let start = c .before .before .before in
     let xs = start .args .file .now in
     let cut = lt-leb (messageLength xs) (length xs) (omega (arith, c .before .if1 .taken)) in
-    rw (c .none-carried .ensures) (first-cut (start .args .settings) xs (start .pre .0) (start .pre .1) cut)
+    rw (c .none-carried .ensures) (first-cut (settingsHeld (start .args .settings)) xs (start .pre .0) (start .pre .1) cut)
 
 returns-2 : tie.Need-returns-2
 returns-2 c =
@@ -65,29 +68,19 @@ returns-2 c =
     let xs = start .args .file .now in
     let size : d .read-u322 .result ≡ sizeIn xs = d .read-u322 .ensures in
     let cut = lt-leb (messageLength xs) (length xs) (omega (arith, c .before .if2 .taken, size)) in
-    rw (c .none-carried2 .ensures) (first-cut (start .args .settings) xs (start .pre .0) (start .pre .1) cut)
-
-read-u64-requires : tie.Need-read-u64-requires
-read-u64-requires c κs =
-    let d = c .before .before .before .before in
-    let size = ack-fits (settings-of d) (typeIn (file-of d)) (sizeIn (file-of d)) (kept-of d) .0 in
-    rw (carried d) (omega (arith, size))
+    rw (c .none-carried2 .ensures) (first-cut (settingsHeld (start .args .settings)) xs (start .pre .0) (start .pre .1) cut)
 
 returns-3 : tie.Need-returns-3
 returns-3 c =
-    let d = c .before .before .before .before .before .before .before in
-    let status = c .before .before .read-u64 in
-    let nonzero : status .result ≡ success → ⊥ = c .before .if3 .taken in
+    let d = c .before .before .before .before in
     let first =
-    first-refused (settings-of d) (file-of d) (kept-of d) (start-of d .pre .0) (whole d) (keeps d) (d .carry-out .result) (carried d)
-    (λ e. nonzero (status .ensures ∙ e)) in
+    first-refused (settings-of d) (file-of d) (kept-of d) (start-of d .pre .0) (whole d) (keeps d) _ _ (carried d) (c .before .if3 .taken) in
     rw (c .none-carried3 .ensures) first
 
 returns-4 : tie.Need-returns-4
 returns-4 c =
-    let d = c .before .before .before .before .before .before in
-    let done = first-done (settings-of d) (file-of d) (kept-of d) (start-of d .pre .0) (whole d) (keeps d) (d .carry-out .result) (carried d)
-    (sym (c .before .read-u64 .ensures) ∙ c .if3 .left) in
+    let d = c .before .before .before in
+    let done = first-done (settings-of d) (file-of d) (kept-of d) (start-of d .pre .0) (whole d) (keeps d) _ _ (carried d) (c .if3 .left) in
     rw (size d) done
 
 pub carry-out-first-spec : {M : Type 1} → statement M
@@ -107,8 +100,6 @@ carry-out-first-spec =
     (λ c. search needs)
     (λ c κs. search needs)
     (λ c κs. search needs)
-    (λ c. search needs)
-    read-u64-requires
     (λ c. search needs)
     (λ c κs. search needs)
     returns-3

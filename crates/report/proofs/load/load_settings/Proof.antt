@@ -1,18 +1,17 @@
 -- `report::load::load_settings` meets its contract: the queue count first, then the messages behind it.
 -- Assumes nothing.
 use mathlib.Core.Path.{_≡_, sym, ap, _∙_}
-use mathlib.Core.Bool.{Bool, cond}
 use mathlib.Core.List.{List}
 use Prim.Native.Nat.{ℕ, _-_, _<_}
 use native.Mathlib.Omega.{arith}
 use lib.ListN.{length, getD, drop, length-drop}
 use lib.Seq.{take-all}
-use borrow.Author.Tests.{not-true, not-false}
-use Rattle.octets.specs.Outcome.{Outcome, value, refused}
-use Rattle.backend.specs.States.{queuesWrong, setUpOutcome}
-use Rattle.backend.specs.declared.Interface.{Interface}
+use Rattle.octets.specs.Outcome.{numberOf}
+use Rattle.messages.specs.Settings.{Settings, Good}
+use Rattle.backend.specs.States.{setUpOutcome, setUpNumber}
 use Rattle.report.specs.Loading.{settingsFrom, settingsOutcome}
-use Rattle.report.proofs.Loads.{load-refused, load-done}
+use Rattle.report.specs.Inner.{settingsHeld, settingsSetUp}
+use Rattle.report.proofs.Loads.{set-up-good, load-refused, load-done}
 use borrow.Author.Needs.{needs}
 use Rattle.report.proofs.load.load_settings.Statement.{statement}
 use Rattle.report.proofs.load.load_settings.Tie as tie
@@ -22,23 +21,27 @@ module _ (d : tie.After-set-up) where
   abbrev file-of : List ℕ
   file-of = d .before .before .before .args .file .now
 
-  abbrev made-or : Bool → Outcome Interface
-  made-or t = cond t (value (d .set-up .result .interface)) (refused queuesWrong)
+  abbrev settings-of : Settings
+  settings-of = settingsHeld (d .set-up .result .settings)
 
-  answered : made-or (d .set-up .result .made) ≡ setUpOutcome (getD file-of 0 0)
-  answered = d .set-up .ensures .0 ∙ ap setUpOutcome (d .before .queue-count .ensures)
+  count : d .before .queue-count .result ≡ getD file-of 0 0
+  count = d .before .queue-count .ensures
+
+  answered : setUpNumber (d .set-up .result .answer) ≡ numberOf (setUpOutcome (getD file-of 0 0))
+  answered = d .set-up .ensures .0 ∙ ap (λ (q : ℕ). numberOf (setUpOutcome q)) count
+
+  left : settings-of ≡ settingsSetUp (getD file-of 0 0)
+  left = d .set-up .ensures .1 ∙ ap settingsSetUp count
+
+  good : Good settings-of
+  good = rw left (set-up-good (getD file-of 0 0))
 
 -- and passed
-done : (c : tie.Else1) → let d = c .before .before .before .before in
-    (0 < length (file-of d)) × (settingsFrom (d .set-up .result .interface .settings) (drop 1 (file-of d)) ≡ settingsOutcome (file-of d))
+done : (c : tie.After-enum-told) → let d = c .before .before .before in
+    (0 < length (file-of d)) × (settingsFrom (settings-of d) (drop 1 (file-of d)) ≡ settingsOutcome (file-of d))
 done c =
-    let d = c .before .before .before .before in
-    load-done (file-of d) (d .set-up .result .interface) (sym (answered d) ∙ ap (made-or d) (not-false (d .set-up .result .made) (c .if1 .left)))
-
-returns : tie.Need-returns
-returns c =
-    let d = c .before .before .before .before in
-    (load-refused (file-of d) (sym (answered d) ∙ ap (made-or d) (not-true (d .set-up .result .made) (c .if1 .taken))), d .set-up .ensures .1 .settings)
+    let d = c .before .before .before in
+    rw (left d) (load-done (file-of d) (sym (ap setUpNumber (c .enum-told .given .1)) ∙ answered d))
 
 sub-carry-out-all : tie.Need-sub-carry-out-all
 sub-carry-out-all c = let some = done c .0 in omega arith
@@ -46,12 +49,20 @@ sub-carry-out-all c = let some = done c .0 in omega arith
 part-carry-out-all-start : tie.Need-part-carry-out-all-start
 part-carry-out-all-start c = let some = done c .0 in omega arith
 
+carry-out-all-requires : tie.Need-carry-out-all-requires
+carry-out-all-requires c κs = good (c .before .before .before .before)
+
+returns : tie.Need-returns
+returns c =
+    let passed = c .before .before in
+    let d = passed .before .before .before in
+    let rest = take-all (length (file-of d) - 1) (drop 1 (file-of d)) (omega (arith, length-drop 1 (file-of d))) in
+    (c .carry-out-all .ensures .0 ∙ ap (settingsFrom (settings-of d)) rest ∙ done passed .1, c .carry-out-all .ensures .1)
+
 returns-2 : tie.Need-returns-2
 returns-2 c =
-    let passed = c .before .before in
-    let d = passed .before .before .before .before in
-    let rest = take-all (length (file-of d) - 1) (drop 1 (file-of d)) (omega (arith, length-drop 1 (file-of d))) in
-    (c .carry-out-all .ensures .0 ∙ ap (settingsFrom (d .set-up .result .interface .settings)) rest ∙ done passed .1, c .carry-out-all .ensures .1)
+    let d = c .before .before .before in
+    (load-refused (file-of d) (sym (ap setUpNumber (c .enum-told2 .given .1)) ∙ answered d), good d)
 
 pub load-settings-spec : {M : Type 1} → statement M
 load-settings-spec =
@@ -59,9 +70,11 @@ load-settings-spec =
     (tie.spec
     (λ c κs. search needs)
     (λ c κs. search needs)
-    returns
+    (λ c. search needs)
     sub-carry-out-all
     part-carry-out-all-start
     (λ c. search needs)
-    (λ c κs. search needs)
+    carry-out-all-requires
+    (λ c. search needs)
+    returns
     returns-2)

@@ -1,0 +1,40 @@
+-- `answer_text::host::set_up_host` meets its contract: setup gives a good interface, or leaves the one that there is.
+-- Assumes nothing.
+use mathlib.Core.Path.{_≡_}
+use mathlib.Core.Bool.{_&&_}
+use Prim.Native.Nat.{ℕ}
+use lib.Dec.{leb}
+use borrow.Author.Needs.{needs}
+use borrow.Author.Tests.{leb-true}
+use Rattle.octets.specs.Outcome.{Outcome, placed, itself}
+use Rattle.octets.proofs.Truth.{both-true, by-test}
+use Rattle.messages.specs.Settings.{maxQueues}
+use Rattle.backend.specs.States.{HostState, Good, setUpOutcome}
+use Rattle.backend.proofs.Goodness.{good-interface}
+use Rattle.answer_text.proofs.host.set_up_host.Statement.{statement}
+use Rattle.answer_text.proofs.host.set_up_host.Tie as tie
+
+placed-good : (q : ℕ) (s t : HostState) → Good s → t ≡ placed itself (setUpOutcome q) s → Good t
+unfolding setUpOutcome
+placed-good q s t good left =
+    rw left
+    (by-test (λ (o : Outcome HostState). Good (placed itself o s)) (leb 1 q && leb q maxQueues) _ _
+    (λ e. let x = both-true (leb 1 q) (leb q maxQueues) .0 e in good-interface q (leb-true _ _ (x .0)) (leb-true _ _ (x .1)))
+    (λ e. good))
+
+returns-2 : tie.Need-returns-2
+returns-2 c =
+    let d = c .before in
+    let start = d .before .before .before .before .before .before .before .before .before .before in
+    placed-good _ _ _ (start .pre) (d .set-up .ensures .1)
+
+pub set-up-host-spec : {M : Type 1} → statement M
+set-up-host-spec =
+    tie.close
+    (tie.spec
+    (λ c κs. search needs)
+    (λ c. search needs)
+    (λ c κs. search needs)
+    (λ c κs. search needs)
+    (λ c κs. search needs)
+    returns-2)

@@ -1,0 +1,34 @@
+-- `message_vectors::main` ends, since it reads ten files at most.
+-- Assumes nothing.
+use mathlib.Core.Path.{_≡_}
+use Prim.Native.Nat.{_≤_, _-_}
+use borrow.Author.Needs.{needs}
+use lib.ListN.{length}
+use Rattle.message_vectors.proofs.main.Statement.{statement}
+use Rattle.message_vectors.proofs.main.Tie as tie
+
+abbrev Inv-loop : tie.InvT-loop
+Inv-loop buffer₀ numbers₀ key₀ entries₀ part₀ buffer numbers key entries part = (part ≤ 10) × (65536 ≡ length buffer)
+
+abbrev μ-loop : tie.MeasureT-loop
+μ-loop buffer₀ numbers₀ key₀ entries₀ part₀ buffer numbers key entries part = 10 - part
+
+pub main-spec : {M : Type 1} → statement M
+main-spec =
+    tie.close
+    (tie.spec
+    Inv-loop
+    μ-loop
+    (λ c κs. search needs)
+    (λ c κs. search needs)
+    (λ c. search needs)
+    (λ c. search needs)
+    (λ c κs. search needs)
+    (λ c. search needs)
+    (λ c. search needs)
+    (λ c. search needs)
+    (λ c κs. search needs)
+    (λ c. search needs)
+    (λ c. search needs)
+    (λ c. search needs)
+    (λ c. search needs))
