@@ -13,16 +13,16 @@ use Rattle.octets.specs.Outcome.{value, refused}
 use Rattle.octets.proofs.Truth.{both-true}
 use Rattle.octets.proofs.Outcomes.{value-not-refused, test-value}
 use Rattle.messages.specs.Settings.{maxQueues}
-use Rattle.ring.specs.Refusals.{pageWrong, requestsWrong, responsesWrong}
-use Rattle.ring.specs.Page.{pageSize, areaSize}
+use Rattle.page.specs.Refusals.{pageWrong, requestsWrong, responsesWrong}
+use Rattle.page.specs.Page.{pageSize, areaSize}
 use Rattle.ring.specs.Reading.{whole}
-use Rattle.backend.specs.States.{queuesWrong, interfaceAtSetup, setUpOutcome}
-use Rattle.backend.specs.Events.{After, waiting, ackWritten, ackOwed, unread, unreadAcks}
-use Rattle.backend.specs.Events.{refusedWith, owes, responded, readIn, carriedOver, proceeded, eventOf, answerNumber}
+use Rattle.interface.specs.States.{queuesWrong, interfaceAtSetup, setUpOutcome}
+use Rattle.interface.specs.Events.{After, waiting, ackWritten, ackOwed, unread, unreadAcks}
+use Rattle.interface.specs.Events.{refusedWith, owes, responded, readIn, carriedOver, proceeded, eventOf, answerNumber}
 use Rattle.backend.specs.Rules.{Accepted, room, afterReading}
-use Rattle.backend.specs.States.{HostState}
-use Rattle.backend.specs.declared.EventAnswer.{EventAnswer}
-use Rattle.backend.specs.declared.EventAnswer.the-variants.{Waiting, Written, Owed, PageLength, RequestCount, ResponseCount}
+use Rattle.interface.specs.States.{HostState}
+use Rattle.interface.specs.declared.EventAnswer.{EventAnswer}
+use Rattle.interface.specs.declared.EventAnswer.the-variants.{Waiting, Written, Owed, PageLength, RequestCount, ResponseCount}
 use Rattle.backend.proofs.Branches.{event-ways, proceeded-cases, event-cases}
 
 -- setup gives the interface for 1 to 64 queues, and refuses any other number by 6

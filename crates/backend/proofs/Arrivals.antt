@@ -6,15 +6,15 @@ use mathlib.Core.Bool.{false}
 use Prim.Native.Nat.{ℕ, _-_, _≤_}
 use native.Mathlib.Omega.{arith}
 use lib.ListN.{length, length-append}
-use Rattle.ring.specs.Page.{areaSize, requestsAt, less, advanced, octetsIn}
+use Rattle.page.specs.Page.{areaSize, requestsAt, less, advanced, octetsIn}
 use Rattle.ring.specs.Reading.{received, receivedFrom}
 use Rattle.ring.specs.Streams.{beginsWhole, presentPart, Holding}
-use Rattle.ring.proofs.Places.{octets-length, octets-take}
+use Rattle.page.proofs.Places.{octets-length, octets-take}
 use Rattle.ring.proofs.Sides.{less-advanced}
 use Rattle.ring.proofs.Holdings.{holding-received, present-most, present-prefix}
-use Rattle.backend.specs.States.{Good}
-use Rattle.backend.specs.Events.{readIn}
-use Rattle.backend.specs.States.{HostState}
+use Rattle.interface.specs.States.{Good}
+use Rattle.interface.specs.Events.{readIn}
+use Rattle.interface.specs.States.{HostState}
 
 -- the octets read on the way from s to t
 abbrev pub readTo : HostState → List ℕ → HostState → List ℕ

@@ -8,13 +8,13 @@ use lib.ListN.{length}
 use lib.Dec.{eqb, leb}
 use borrow.Author.Tests.{eqb-true, eqb-false, leb-true, leb-false}
 use Rattle.octets.proofs.Truth.{by-test}
-use Rattle.ring.specs.Refusals.{pageWrong, requestsWrong, responsesWrong}
-use Rattle.ring.specs.Page.{pageSize, areaSize}
+use Rattle.page.specs.Refusals.{pageWrong, requestsWrong, responsesWrong}
+use Rattle.page.specs.Page.{pageSize, areaSize}
 use Rattle.ring.specs.Reading.{whole}
-use Rattle.backend.specs.Events.{After, waiting, unread, unreadAcks}
-use Rattle.backend.specs.Events.{refusedWith, answeredWith, owes, responded, carriedOver, afterRead, proceeded, eventOf}
+use Rattle.interface.specs.Events.{After, waiting, unread, unreadAcks}
+use Rattle.interface.specs.Events.{refusedWith, answeredWith, owes, responded, carriedOver, afterRead, proceeded, eventOf}
 use Rattle.backend.specs.Rules.{Accepted, room, afterReading}
-use Rattle.backend.specs.States.{HostState}
+use Rattle.interface.specs.States.{HostState}
 
 module _ (s : HostState) (page : List ℕ) (P : After → Type 0) where
   pub proceeded-cases :

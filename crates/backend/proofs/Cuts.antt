@@ -6,19 +6,19 @@ use mathlib.Core.Bool.{true, false}
 use Prim.Native.Nat.{ℕ, _^_, _≤_, _<_}
 use native.Mathlib.Omega.{arith}
 use Rattle.messages.specs.Settings.{maxQueues, settingsAtSetup}
-use Rattle.ring.specs.Refusals.{pageWrong, requestsWrong, responsesWrong}
-use Rattle.ring.specs.Page.{requestsAt, responsesAt, less, octetsIn}
+use Rattle.page.specs.Refusals.{pageWrong, requestsWrong, responsesWrong}
+use Rattle.page.specs.Page.{requestsAt, responsesAt, less, octetsIn}
 use Rattle.ring.specs.Reading.{whole}
 use Rattle.ring.specs.Streams.{beginsWhole, presentPart}
-use Rattle.ring.proofs.Places.{octets-none}
+use Rattle.page.proofs.Places.{octets-none}
 use Rattle.ring.proofs.Holdings.{holding-none, holding-whole}
-use Rattle.backend.specs.States.{Good, interfaceAtSetup}
-use Rattle.backend.specs.Events.{After, waiting, unread, refusedWith, answeredWith}
-use Rattle.backend.specs.Events.{owes, responded, readIn, carriedOver, eventOf}
+use Rattle.interface.specs.States.{Good, interfaceAtSetup}
+use Rattle.interface.specs.Events.{After, waiting, unread, refusedWith, answeredWith}
+use Rattle.interface.specs.Events.{owes, responded, readIn, carriedOver, eventOf}
 use Rattle.backend.specs.Streams.{messagesWithin, restWithin, messagesIn, restOf, settingsAfter, acksTo, owedOctets}
 use Rattle.backend.specs.Streams.{readBy, writtenBy, stateAfter, octetsRead, octetsWritten, Served}
 use Rattle.backend.specs.Rules.{Accepted, room, afterReading}
-use Rattle.backend.specs.States.{HostState}
+use Rattle.interface.specs.States.{HostState}
 use Rattle.backend.proofs.Branches.{event-cases}
 use Rattle.backend.proofs.Goodness.{good-interface, good-event, good-carried}
 use Rattle.backend.proofs.Falls.{stream-parts, messages-whole, rest-part, falls-so, empty-part}

@@ -11,14 +11,14 @@ use Rattle.messages.specs.Wire.{headerSize, maxPayload, typeIn, sizeIn}
 use Rattle.messages.specs.Requests.{maxAck}
 use Rattle.messages.specs.Settings.{maxQueues, Good as GoodSettings}
 use Rattle.messages.proofs.Theorems.{ack-fits, good-at-setup, good-stays-good}
-use Rattle.ring.specs.Page.{requestsAt, octetsIn}
+use Rattle.page.specs.Page.{requestsAt, octetsIn}
 use Rattle.ring.specs.Reading.{whole, receivedFrom}
 use Rattle.ring.specs.Writing.{owed, GoodOutgoing}
 use Rattle.ring.proofs.Sides.{grown, none-waits, good-received, good-sent, good-incoming-at-setup, good-outgoing-at-setup}
-use Rattle.backend.specs.States.{Good, interfaceAtSetup}
-use Rattle.backend.specs.Events.{After, owes, responded, readIn, carriedOver, unread, eventOf}
+use Rattle.interface.specs.States.{Good, interfaceAtSetup}
+use Rattle.interface.specs.Events.{After, owes, responded, readIn, carriedOver, unread, eventOf}
 use Rattle.backend.specs.Rules.{afterReading}
-use Rattle.backend.specs.States.{HostState}
+use Rattle.interface.specs.States.{HostState}
 use Rattle.backend.proofs.Branches.{event-cases}
 
 -- setup

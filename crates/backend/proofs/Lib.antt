@@ -2,7 +2,6 @@
 pub mod Branches
 pub mod Goodness
 pub mod Steps
-pub mod Stored
 pub mod Answers
 pub mod Queues
 pub mod Pages

@@ -8,20 +8,20 @@ use Prim.Native.Nat.{ℕ, _+_, _-_, _%_, _^_, _≤_, _<_}
 use native.Mathlib.Omega.{arith}
 use lib.ListN.{length, getD, drop, length-take}
 use lib.Dec.{eqb, leb}
-use Rattle.ring.specs.Refusals.{pageWrong, requestsWrong, responsesWrong}
-use Rattle.ring.specs.Page.{pageSize, areaSize, reqConsAt, reqProdAt, rspConsAt, rspProdAt, requestsAt, responsesAt}
-use Rattle.ring.specs.Page.{countIn, less, counted, octetsIn, put}
+use Rattle.page.specs.Refusals.{pageWrong, requestsWrong, responsesWrong}
+use Rattle.page.specs.Page.{pageSize, areaSize, reqConsAt, reqProdAt, rspConsAt, rspProdAt, requestsAt, responsesAt}
+use Rattle.page.specs.Page.{countIn, less, counted, octetsIn, put}
 use Rattle.ring.specs.Reading.{whole, receivedFrom}
 use Rattle.ring.specs.Writing.{fitting, sentOctets, sent}
-use Rattle.ring.proofs.Places.{octets-length, put-length}
-use Rattle.ring.proofs.Untouched.{counted-between, counted-behind, counted-length, counted-cons, counted-prod}
-use Rattle.ring.proofs.Untouched.{counted-others, put-other, octets-agree}
-use Rattle.backend.specs.States.{Good}
-use Rattle.backend.specs.Events.{After, unread, unreadAcks, refusedWith, answeredWith}
-use Rattle.backend.specs.Events.{withOutgoing, owes, responded, readIn, carriedOver, afterRead, proceeded, eventOf}
+use Rattle.page.proofs.Places.{octets-length, put-length}
+use Rattle.page.proofs.Untouched.{counted-between, counted-behind, counted-length, counted-cons, counted-prod}
+use Rattle.page.proofs.Untouched.{counted-others, put-other, octets-agree}
+use Rattle.interface.specs.States.{Good}
+use Rattle.interface.specs.Events.{After, unread, unreadAcks, refusedWith, answeredWith}
+use Rattle.interface.specs.Events.{withOutgoing, owes, responded, readIn, carriedOver, afterRead, proceeded, eventOf}
 use Rattle.backend.specs.Streams.{writtenBy}
 use Rattle.backend.specs.Rules.{Accepted, room, afterReading, NoOwnCount, AckPlace, Alike}
-use Rattle.backend.specs.States.{HostState}
+use Rattle.interface.specs.States.{HostState}
 use Rattle.backend.proofs.Branches.{event-cases}
 use Rattle.backend.proofs.Goodness.{good-responded, good-read, good-carried}
 

@@ -16,19 +16,19 @@ use Rattle.messages.specs.Requests.{maxAck, ackIn, carriedOut, carriedMessage}
 use Rattle.messages.specs.Settings.{Settings}
 use Rattle.messages.specs.Requests.{Carried}
 use Rattle.messages.proofs.Theorems.{header-bounds-payload, header-alone}
-use Rattle.ring.specs.Page.{pageSize, areaSize, requestsAt, responsesAt, less, advanced, octetsIn, put}
+use Rattle.page.specs.Page.{pageSize, areaSize, requestsAt, responsesAt, less, advanced, octetsIn, put}
 use Rattle.ring.specs.Writing.{owed, fitting, sentOctets, GoodOutgoing}
 use Rattle.ring.specs.Reading.{messageLength}
 use Rattle.ring.specs.Streams.{beginsWhole, presentPart, Holding}
 use Rattle.ring.specs.Reading.{Message}
 use Rattle.ring.specs.Writing.{Outgoing}
-use Rattle.ring.proofs.Untouched.{counted-octets, put-stands}
+use Rattle.page.proofs.Untouched.{counted-octets, put-stands}
 use Rattle.ring.proofs.Sides.{less-advanced}
 use Rattle.ring.proofs.Holdings.{size-take, part-whole, part-all, holding-none, holding-header}
-use Rattle.backend.specs.States.{Good}
-use Rattle.backend.specs.Events.{After, owes, responded, readIn, carriedIn, carriedOver}
+use Rattle.interface.specs.States.{Good}
+use Rattle.interface.specs.Events.{After, owes, responded, readIn, carriedIn, carriedOver}
 use Rattle.backend.specs.Streams.{joined, Messages, settingsAfter, acksTo, owedOctets}
-use Rattle.backend.specs.States.{HostState}
+use Rattle.interface.specs.States.{HostState}
 use Rattle.backend.proofs.Arrivals.{readTo, read-held, read-octets}
 use Rattle.backend.proofs.Falls.{first-long, joined-snoc, messages-snoc, settings-snoc, acks-snoc}
 

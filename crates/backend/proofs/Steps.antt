@@ -1,51 +1,20 @@
--- What the functions of an event did, as the definitions say it.
+-- The ways of an event, as the definitions say them.
 -- Assumes nothing.
 use mathlib.Core.Path.{_≡_, refl, ap}
 use mathlib.Core.List.{List}
-use mathlib.Core.Bool.{true, false, cond}
-use Prim.Native.Nat.{ℕ, _+_, _-_, _≤_, _<_}
+use mathlib.Core.Bool.{true, false}
+use Prim.Native.Nat.{ℕ, _-_, _≤_, _<_}
 use lib.ListN.{length}
-use lib.Dec.{ltb}
 use borrow.Author.Tests.{eq-eqb, ne-eqb, le-leb, lt-leb}
-use Rattle.messages.specs.Requests.{Carried}
-use Rattle.ring.specs.Refusals.{pageWrong, requestsWrong, responsesWrong}
-use Rattle.ring.specs.Page.{pageSize, areaSize, requestsAt, responsesAt, advanced, counted, put}
-use Rattle.ring.specs.Reading.{Incoming, whole, receivedFrom}
-use Rattle.ring.specs.Writing.{fitting, sentOctets, sent}
-use Rattle.backend.specs.States.{HostState, Good}
-use Rattle.backend.specs.Events.{After, unread, unreadAcks, refusedWith, withIncoming, withOutgoing, owes}
-use Rattle.backend.specs.Events.{ackWritten, ackOwed, answerNumber, responded, readIn, carriedIn, carriedOver, afterRead, proceeded, eventOf, left}
-use Rattle.backend.specs.declared.EventAnswer.{EventAnswer}
-use Rattle.backend.specs.declared.EventAnswer.the-variants.{Waiting}
+use Rattle.page.specs.Refusals.{pageWrong, requestsWrong, responsesWrong}
+use Rattle.page.specs.Page.{pageSize, areaSize, counted}
+use Rattle.ring.specs.Reading.{whole}
+use Rattle.interface.specs.States.{HostState, Good}
+use Rattle.interface.specs.Events.{After, unread, unreadAcks, refusedWith, owes}
+use Rattle.interface.specs.Events.{responded, readIn, carriedOver, afterRead, proceeded, eventOf, left}
+use Rattle.interface.specs.declared.EventAnswer.{EventAnswer}
+use Rattle.interface.specs.declared.EventAnswer.the-variants.{Waiting}
 use Rattle.backend.proofs.Goodness.{good-event}
-
--- the state with what a request carried out gives
-abbrev pub over : HostState → Carried → HostState
-over s c =
-    let m = s .incoming .message in
-    record {
-      settings = c .settings;
-      incoming = record { message = record { header = m .header; payload = m .payload; taken = 0 }; cons = s .incoming .cons };
-      outgoing = record { octets = c .ack .octets; length = c .ack .length; written = 0; prod = s .outgoing .prod };
-    }
-
--- the message carried out
-pub carries : (s : HostState) (c : Carried) → c ≡ carriedIn s → over s c ≡ carriedOver s
-unfolding carriedOver
-carries s c e = ap (over s) e
-
--- the message read
-pub reads : (s : HostState) (page : List ℕ) (n : ℕ) (i : Incoming) → i ≡ receivedFrom requestsAt page (s .incoming) n → withIncoming s i ≡ readIn s page n
-unfolding readIn
-reads s page n i e = ap (withIncoming s) e
-
--- ack octets sent, and the counts written
-pub responds : (s : HostState) (page : List ℕ) (room n : ℕ) (r : EventAnswer) (octets : List ℕ) → n ≡ fitting (s .outgoing) room
-    → octets ≡ counted (put responsesAt page (s .outgoing .prod) (sentOctets (s .outgoing) n)) (s .incoming .cons) (advanced (s .outgoing .prod) n)
-    → answerNumber r ≡ cond (ltb (s .outgoing .written + n) (s .outgoing .length)) ackOwed ackWritten
-    → left r (withOutgoing s (sent (s .outgoing) n)) octets ≡ responded s page room
-unfolding responded
-responds s page room n r octets fits written answer = rw (answer, written, fits) refl
 
 -- ack octets owed: they are written
 pub proceeds-owing : (s : HostState) (page : List ℕ) (n room : ℕ) → owes s ≡ true → responded s page room ≡ proceeded s page n room

@@ -11,19 +11,19 @@ use Rattle.messages.specs.Wire.{typeIn, sizeIn, success}
 use Rattle.messages.specs.Requests.{ackStatus}
 use Rattle.messages.specs.Settings.{Settings}
 use Rattle.messages.proofs.Theorems.{refused-keeps-settings, queues-stay}
-use Rattle.ring.specs.Page.{requestsAt, responsesAt, advanced, less, octetsIn}
+use Rattle.page.specs.Page.{requestsAt, responsesAt, advanced, less, octetsIn}
 use Rattle.ring.specs.Reading.{whole, received, receivedFrom}
 use Rattle.ring.specs.Reading.{Incoming}
 use Rattle.ring.specs.Streams.{beginsWhole, presentPart, Holding}
-use Rattle.ring.proofs.Places.{octets-length}
+use Rattle.page.proofs.Places.{octets-length}
 use Rattle.ring.proofs.Holdings.{holding-whole, holding-received, present-whole}
 use Rattle.steering.specs.Steering.{queueIn}
-use Rattle.backend.specs.States.{Good, steeredBy}
-use Rattle.backend.specs.Events.{After, waiting, unread}
-use Rattle.backend.specs.Events.{owes, responded, readIn, carriedIn, carriedOver, eventOf}
+use Rattle.interface.specs.States.{Good, steeredBy}
+use Rattle.interface.specs.Events.{After, waiting, unread}
+use Rattle.interface.specs.Events.{owes, responded, readIn, carriedIn, carriedOver, eventOf}
 use Rattle.backend.specs.Streams.{readBy, writtenBy, Reached, fromSetUp, fromEvent}
 use Rattle.backend.specs.Rules.{Accepted, room, afterReading, BecomesWhole}
-use Rattle.backend.specs.States.{HostState}
+use Rattle.interface.specs.States.{HostState}
 use Rattle.backend.proofs.Branches.{event-cases}
 use Rattle.backend.proofs.Goodness.{good-interface, good-event}
 use Rattle.backend.proofs.Queues.{good-queue}

@@ -1,6 +1,3 @@
 -- The definitions that the contracts and theorems of `backend` cite, in the order of document 01.
-pub mod States
-pub mod Events
-pub mod Inner
 pub mod Streams
 pub mod Rules

@@ -6,11 +6,11 @@ use mathlib.Core.Logic.{_⊎_}
 use mathlib.Core.Bool.{true, false}
 use Prim.Native.Nat.{ℕ, _+_, _-_, _%_, _≤_, _<_}
 use lib.ListN.{length}
-use Rattle.ring.specs.Page.{pageSize, areaSize, reqProdAt, rspProdAt, requestsAt, responsesAt}
+use Rattle.page.specs.Page.{pageSize, areaSize, reqProdAt, rspProdAt, requestsAt, responsesAt}
 use Rattle.ring.specs.Reading.{whole}
-use Rattle.backend.specs.Events.{After, unread, unreadAcks, owes, readIn}
+use Rattle.interface.specs.Events.{After, unread, unreadAcks, owes, readIn}
 use Rattle.backend.specs.Streams.{writtenBy}
-use Rattle.backend.specs.States.{HostState}
+use Rattle.interface.specs.States.{HostState}
 
 -- an event is accepted: none of the conditions of 3, 4 and 5 holds
 pub record Accepted (s : HostState) (page : List ℕ) : Type 0 where

@@ -8,12 +8,12 @@ use lib.ListN.{length, take, drop}
 use Rattle.messages.specs.Settings.{maxQueues, settingsAtSetup}
 use Rattle.messages.specs.Requests.{ackIn, carriedMessage}
 use Rattle.messages.specs.Settings.{Settings}
-use Rattle.ring.specs.Page.{requestsAt, responsesAt, less, octetsIn}
+use Rattle.page.specs.Page.{requestsAt, responsesAt, less, octetsIn}
 use Rattle.ring.specs.Reading.{messageLength}
 use Rattle.ring.specs.Streams.{beginsWhole, firstMessage, behindFirst, Holding}
-use Rattle.backend.specs.States.{interfaceAtSetup}
-use Rattle.backend.specs.Events.{eventOf}
-use Rattle.backend.specs.States.{HostState}
+use Rattle.interface.specs.States.{interfaceAtSetup}
+use Rattle.interface.specs.Events.{eventOf}
+use Rattle.interface.specs.States.{HostState}
 
 -- the messages into which a stream falls, at most n of them, and what is behind them
 unfoldable pub messagesWithin : ℕ → List ℕ → List (List ℕ)

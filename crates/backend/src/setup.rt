@@ -1,10 +1,10 @@
 // A new interface, written in place.
 ghost use mathlib.Core.Path.{_≡_};
 ghost use Rattle.octets.specs.Outcome.{numberOf, placed, itself};
-ghost use Rattle.backend.specs.States.{interfaceIn, setUpOutcome, setUpNumber};
+ghost use Rattle.interface.specs.States.{interfaceIn, setUpOutcome, setUpNumber};
 use crate::MAX_QUEUES;
-use crate::NUMBERS;
-use crate::SetUpAnswer;
+use interface::NUMBERS;
+use interface::SetUpAnswer;
 use messages::HEADER;
 use messages::MAX_ACK;
 use messages::MAX_ENTRIES;

@@ -3,9 +3,9 @@
 use mathlib.Core.Path.{_≡_, ap, _∙_}
 use mathlib.Core.List.{List}
 use Prim.Native.Nat.{ℕ}
-use Rattle.frontend.specs.Guest.{GuestState, toldNumber, toldOf}
-use Rattle.frontend.specs.Calls.{After, left}
-use Rattle.frontend.specs.declared.GuestAnswer.{GuestAnswer}
+use Rattle.guest_steps.specs.Guest.{GuestState, toldNumber, toldOf}
+use Rattle.guest_steps.specs.Calls.{After, left}
+use Rattle.guest_steps.specs.declared.GuestAnswer.{GuestAnswer}
 use Rattle.by_number.specs.Answers.{Leaves}
 
 pub tells : (a : After) (answer : GuestAnswer) (r : ℕ) (g : GuestState) (octets : List ℕ) → left answer g octets ≡ a

@@ -3,9 +3,9 @@
 use mathlib.Core.Path.{_≡_}
 use mathlib.Core.List.{List}
 use Prim.Native.Nat.{ℕ}
-use Rattle.backend.specs.Events.{After, answerNumber, left as leftBy}
-use Rattle.backend.specs.States.{HostState}
-use Rattle.backend.specs.declared.EventAnswer.{EventAnswer}
+use Rattle.interface.specs.Events.{After, answerNumber, left as leftBy}
+use Rattle.interface.specs.States.{HostState}
+use Rattle.interface.specs.declared.EventAnswer.{EventAnswer}
 use Rattle.by_number.specs.Answers.{left}
 
 pub numbered : (k : ℕ) (r : EventAnswer) (s : HostState) (page : List ℕ) {a : After} → k ≡ answerNumber r → leftBy r s page ≡ a

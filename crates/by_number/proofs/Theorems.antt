@@ -10,9 +10,9 @@ use borrow.Author.Tests.{leb-true}
 use Rattle.octets.specs.Outcome.{value, refused, done, numberOf, placed, itself}
 use Rattle.octets.proofs.Truth.{both-true}
 use Rattle.messages.specs.Settings.{maxQueues}
-use Rattle.backend.specs.States.{Good, queuesWrong, interfaceAtSetup, setUpOutcome, steeredBy}
-use Rattle.backend.specs.Events.{After, ackOwed, eventOf}
-use Rattle.backend.specs.States.{HostState}
+use Rattle.interface.specs.States.{Good, queuesWrong, interfaceAtSetup, setUpOutcome, steeredBy}
+use Rattle.interface.specs.Events.{After, ackOwed, eventOf}
+use Rattle.interface.specs.States.{HostState}
 use Rattle.backend.proofs.Goodness.{good-interface}
 use Rattle.backend.proofs.Answers.{refused-leaves-all}
 use Rattle.backend.proofs.Queues.{good-queue}

@@ -7,12 +7,12 @@ use Prim.Native.Nat.{ℕ}
 use Rattle.octets.specs.Outcome.{Outcome, numberOf, placed, itself}
 use Rattle.toeplitz.specs.TwoWay.{Verdict, agree, differAt}
 use Rattle.steering.specs.Steering.{Choice, unhashed, hashed, queueIn}
-use Rattle.backend.specs.Events.{After}
-use Rattle.backend.specs.States.{HostState}
+use Rattle.interface.specs.Events.{After}
+use Rattle.interface.specs.States.{HostState}
 use Rattle.guest_messages.specs.Writer.{written}
 use Rattle.guest_messages.specs.Reader.{Reading, status, statusAndFlags}
-use Rattle.frontend.specs.Guest.{GuestState, Told, number, acked, toldNumber}
-use Rattle.frontend.specs.Calls as guest
+use Rattle.guest_steps.specs.Guest.{GuestState, Told, number, acked, toldNumber}
+use Rattle.guest_steps.specs.Calls as guest
 
 -- of the two-way answer: 1 for yes and 0 for no; and the bit, where there is one
 abbrev pub meets : Verdict → ℕ → ℕ

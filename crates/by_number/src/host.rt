@@ -1,25 +1,21 @@
-// The host's calls on an interface whose parts are lent.
+// The answers of the host by their numbers, and the packet question of an interface whose parts are lent.
 ghost use mathlib.Core.Path.{_≡_};
-ghost use Rattle.octets.specs.Outcome.{numberOf, placed, itself};
 ghost use Rattle.messages.specs.Settings.{Good as GoodSettings};
-ghost use Rattle.backend.specs.States.{Good, settingsIn, interfaceIn, setUpOutcome, setUpNumber, steeredBy};
-ghost use Rattle.backend.specs.Events.{answerNumber, eventOf};
-ghost use Rattle.by_number.specs.Answers.{left, Steers};
+ghost use Rattle.interface.specs.States.{settingsIn, setUpNumber, steeredBy};
+ghost use Rattle.interface.specs.Events.{answerNumber};
+ghost use Rattle.by_number.specs.Answers.{Steers};
 use crate::DONE;
 use crate::HASHED;
 use crate::PAGE_LENGTH;
 use crate::REQUEST_COUNT;
 use crate::RESPONSE_COUNT;
 use crate::UNHASHED;
-use backend::ENTRY_COUNT;
-use backend::EventAnswer;
-use backend::FLAGS;
-use backend::NUMBERS;
-use backend::SetUpAnswer;
-use messages::HEADER;
-use messages::MAX_ACK;
+use interface::ENTRY_COUNT;
+use interface::EventAnswer;
+use interface::FLAGS;
+use interface::NUMBERS;
+use interface::SetUpAnswer;
 use messages::MAX_ENTRIES;
-use messages::MAX_PAYLOAD;
 use steering::Steered;
 use toeplitz::KEY_LENGTH;
 
@@ -33,25 +29,8 @@ const ACK_OWED: u32 = 2;
 // The refusal of a setup.
 const QUEUES: u32 = 6;
 
-// Sets up the interface with this many queues in operation, 1 to 64.
-pub fn set_up<'a>(
-    numbers: &'a mut [u64; NUMBERS],
-    header: &'a mut [u8; HEADER],
-    payload: &'a mut [u8; MAX_PAYLOAD],
-    ack: &'a mut [u8; MAX_ACK],
-    key: &'a mut [u8; KEY_LENGTH],
-    entries: &'a mut [u8; MAX_ENTRIES],
-    queues: u32,
-) -> u32
-    ensures { λ r. ⌜ (r ≡ numberOf (setUpOutcome queues))
-        × (interfaceIn (now (numbers .exit)) (now (header .exit)) (now (payload .exit)) (now (ack .exit)) (now (key .exit)) (now (entries .exit))
-        ≡ placed itself (setUpOutcome queues) (interfaceIn (now (numbers .entry)) (now (header .entry)) (now (payload .entry)) (now (ack .entry)) (now (key .entry)) (now (entries .entry)))) ⌝ }
-{
-    let answer = backend::set_up(numbers, header, payload, ack, key, entries, queues);
-    set_up_number(answer)
-}
-
-fn set_up_number(answer: SetUpAnswer) -> u32
+// The number of an answer to a setup.
+pub fn set_up_number(answer: SetUpAnswer) -> u32
     ensures { λ r. ⌜ r ≡ setUpNumber answer ⌝ }
 {
     match answer {
@@ -60,26 +39,8 @@ fn set_up_number(answer: SetUpAnswer) -> u32
     }
 }
 
-// One event of the interface on its page.
-pub fn event<'a>(
-    numbers: &'a mut [u64; NUMBERS],
-    header: &'a mut [u8; HEADER],
-    payload: &'a mut [u8; MAX_PAYLOAD],
-    ack: &'a mut [u8; MAX_ACK],
-    key: &'a mut [u8; KEY_LENGTH],
-    entries: &'a mut [u8; MAX_ENTRIES],
-    page: &mut [u8],
-) -> u32
-    requires { ⌜ Good (interfaceIn (now numbers) (now header) (now payload) (now ack) (now key) (now entries)) ⌝ }
-    ensures { λ r. ⌜ (left r (interfaceIn (now (numbers .exit)) (now (header .exit)) (now (payload .exit)) (now (ack .exit)) (now (key .exit)) (now (entries .exit))) (now (page .exit))
-        ≡ eventOf (interfaceIn (now (numbers .entry)) (now (header .entry)) (now (payload .entry)) (now (ack .entry)) (now (key .entry)) (now (entries .entry))) (now (page .entry)))
-        × Good (interfaceIn (now (numbers .exit)) (now (header .exit)) (now (payload .exit)) (now (ack .exit)) (now (key .exit)) (now (entries .exit))) ⌝ }
-{
-    let answer = backend::event(numbers, header, payload, ack, key, entries, page);
-    event_number(answer)
-}
-
-fn event_number(answer: EventAnswer) -> u32
+// The number of an answer to an event.
+pub fn event_number(answer: EventAnswer) -> u32
     ensures { λ r. ⌜ r ≡ answerNumber answer ⌝ }
 {
     match answer {

@@ -1,19 +1,16 @@
-// The calls of the crates below, each by the number of its answer: values go to places that are lent for them, which a refusal
-// leaves as they were. The state of an interface or a guest is lent in parts, so that the prover covers every function here.
+// Answers by their numbers: values go to places that are lent for them, which a refusal leaves as they were. The hash, the
+// guest's messages and the packet question are whole calls; of the others the answer is told.
 mod guest;
 mod hashing;
 mod host;
 mod writing;
 
-pub use guest::guest_event;
-pub use guest::start_get_flags;
-pub use guest::start_set_flags;
-pub use guest::start_set_key;
-pub use guest::start_set_mapping;
+pub use guest::answer_number;
+pub use guest::tell_answer;
 pub use hashing::hash;
 pub use hashing::two_way;
-pub use host::event;
-pub use host::set_up;
+pub use host::event_number;
+pub use host::set_up_number;
 pub use host::steer;
 pub use writing::read_ack;
 pub use writing::write_get_flags;

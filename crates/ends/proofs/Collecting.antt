@@ -14,17 +14,17 @@ use Rattle.messages.specs.Wire.{typeIn, sizeIn, payloadIn}
 use Rattle.messages.specs.Requests.{requestOf, ackIn, carriedMessage}
 use Rattle.messages.specs.Settings.{Settings}
 use Rattle.messages.proofs.Theorems.{ack-carries-status}
-use Rattle.ring.specs.Page.{reqConsAt, rspProdAt, responsesAt, less, advanced, octetsIn}
+use Rattle.page.specs.Page.{reqConsAt, rspProdAt, responsesAt, less, advanced, octetsIn}
 use Rattle.ring.specs.Reading.{messageLength, received, receivedFrom}
 use Rattle.ring.specs.Reading.{Message}
 use Rattle.ring.proofs.Turns.{parts}
 use Rattle.ring.proofs.Sides.{less-advanced}
-use Rattle.ring.proofs.Untouched.{guest-counted-length, guest-counted-others}
-use Rattle.backend.specs.States.{Good as GoodHost}
+use Rattle.page.proofs.Untouched.{guest-counted-length, guest-counted-others}
+use Rattle.interface.specs.States.{Good as GoodHost}
 use Rattle.guest_messages.specs.Reader.{Reading, answerTo, readAck}
-use Rattle.frontend.specs.Guest.{idle, acked, incoming, owes, Good as GoodGuest}
-use Rattle.frontend.specs.Calls.{After, unreadRequests, unreadAcks, answeredWith, judged, seen, doneWith, concluded, readOn, eventOf}
-use Rattle.frontend.specs.Guest.{GuestState}
+use Rattle.guest_steps.specs.Guest.{idle, acked, incoming, owes, Good as GoodGuest}
+use Rattle.guest_steps.specs.Calls.{After, unreadRequests, unreadAcks, answeredWith, judged, seen, doneWith, concluded, readOn, eventOf}
+use Rattle.guest_steps.specs.Guest.{GuestState}
 use Rattle.guest_messages.proofs.Theorems.{reader-accepts-ack}
 use Rattle.ends.specs.Ends.{Ends, afterGuest, guestEvent, answerOf, Agree}
 use Rattle.ends.proofs.Points.{Answered}

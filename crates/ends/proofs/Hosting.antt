@@ -13,18 +13,18 @@ use Rattle.messages.specs.Wire.{headerSize, typeIn, sizeIn}
 use Rattle.messages.specs.Requests.{maxAck, ackIn, carriedMessage}
 use Rattle.messages.specs.Requests.{Carried}
 use Rattle.messages.proofs.Theorems.{ack-fits}
-use Rattle.ring.specs.Page.{pageSize, areaSize, reqConsAt, rspProdAt, requestsAt, responsesAt, countIn, less, advanced, octetsIn, put}
+use Rattle.page.specs.Page.{pageSize, areaSize, reqConsAt, rspProdAt, requestsAt, responsesAt, countIn, less, advanced, octetsIn, put}
 use Rattle.ring.specs.Reading.{messageLength, whole, received, receivedFrom}
 use Rattle.ring.specs.Writing.{fitting, sentOctets}
 use Rattle.ring.specs.Streams.{beginsWhole, presentPart, Holding}
 use Rattle.ring.specs.Writing.{Outgoing}
-use Rattle.ring.proofs.Places.{put-length}
-use Rattle.ring.proofs.Untouched.{counted-length, counted-octets, counted-cons, counted-prod, put-stands}
+use Rattle.page.proofs.Places.{put-length}
+use Rattle.page.proofs.Untouched.{counted-length, counted-octets, counted-cons, counted-prod, put-stands}
 use Rattle.ring.proofs.Sides.{less-advanced}
 use Rattle.ring.proofs.Holdings.{size-front, part-whole, part-all, holding-whole, holding-received}
-use Rattle.backend.specs.Events.{After, waiting, unread, unreadAcks, answeredWith, owes, responded, readIn, carriedIn, carriedOver, afterRead, proceeded, eventOf}
+use Rattle.interface.specs.Events.{After, waiting, unread, unreadAcks, answeredWith, owes, responded, readIn, carriedIn, carriedOver, afterRead, proceeded, eventOf}
 use Rattle.backend.specs.Rules.{Accepted, room, afterReading, BecomesWhole}
-use Rattle.backend.specs.States.{HostState}
+use Rattle.interface.specs.States.{HostState}
 use Rattle.backend.proofs.Stages.{carried-held}
 use Rattle.backend.proofs.Theorems.{carried-out}
 use Rattle.ends.specs.Ends.{Ends, hostTurn}

@@ -27,11 +27,11 @@ use Rattle.ring.specs.Reading.{messageLength, whole, received}
 use Rattle.ring.proofs.Turns.{parts}
 use Rattle.ring.proofs.Steps.{received-append, received-header, received-payload}
 use Rattle.ring.proofs.Holdings.{size-take}
-use Rattle.frontend.specs.Guest.{maxRequest, maxAckPayload}
+use Rattle.guest_steps.specs.Guest.{maxRequest, maxAckPayload}
 use Rattle.guest_messages.specs.Writer.{fieldsOf}
 use Rattle.guest_messages.specs.Reader.{readAck}
 use Rattle.frontend.specs.Rules.{Asked, getsFlags, setsFlags, setsKey, setsMapping}
-use Rattle.frontend.specs.Calls.{sizeWrong, messageOctets, judged, seen}
+use Rattle.guest_steps.specs.Calls.{sizeWrong, messageOctets, judged, seen}
 use Rattle.frontend.proofs.Goodness.{short-get-flags, short-set-flags, short-set-key, short-set-mapping}
 use Rattle.ends.specs.Ends.{Made}
 

@@ -6,11 +6,11 @@ use mathlib.Core.Bool.{false}
 use Prim.Native.Nat.{ℕ, _-_, _^_, _<_}
 use lib.ListN.{length, take, drop}
 use Rattle.messages.specs.Wire.{headerSize}
-use Rattle.ring.specs.Page.{pageSize, reqConsAt, reqProdAt, rspConsAt, rspProdAt, requestsAt, responsesAt, countIn, advanced, octetsIn}
+use Rattle.page.specs.Page.{pageSize, reqConsAt, reqProdAt, rspConsAt, rspProdAt, requestsAt, responsesAt, countIn, advanced, octetsIn}
 use Rattle.ring.specs.Streams.{Holding}
-use Rattle.backend.specs.Events.{owes as hostOwes}
-use Rattle.frontend.specs.Guest.{maxAckPayload, outstanding}
-use Rattle.frontend.specs.Guest.{GuestState}
+use Rattle.interface.specs.Events.{owes as hostOwes}
+use Rattle.guest_steps.specs.Guest.{maxAckPayload, outstanding}
+use Rattle.guest_steps.specs.Guest.{GuestState}
 use Rattle.ends.specs.Ends.{Ends}
 
 -- the guest has written n octets of the request m, and read nothing of an ack

@@ -6,11 +6,11 @@ use Prim.Native.Nat.{ℕ, _+_, _-_, _≤_, _<_}
 use native.Mathlib.Omega.{arith}
 use lib.ListN.{length}
 use Rattle.messages.specs.Requests.{carriedMessage}
-use Rattle.ring.specs.Page.{areaSize}
+use Rattle.page.specs.Page.{areaSize}
 use Rattle.ring.specs.Reading.{messageLength}
-use Rattle.backend.specs.States.{Good as GoodHost}
+use Rattle.interface.specs.States.{Good as GoodHost}
 use Rattle.backend.proofs.Goodness.{good-event as good-host-event}
-use Rattle.frontend.specs.Guest.{number, acked, pending, Good as GoodGuest}
+use Rattle.guest_steps.specs.Guest.{number, acked, pending, Good as GoodGuest}
 use Rattle.frontend.proofs.Goodness.{good-event}
 use Rattle.ends.specs.Ends.{Ends, hostTurn, round, toldIn, answerOf, Agree}
 use Rattle.ends.proofs.Points.{Sent}

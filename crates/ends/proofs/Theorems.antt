@@ -15,11 +15,11 @@ use Rattle.octets.proofs.Outcomes.{value-same}
 use Rattle.messages.specs.Settings.{maxQueues}
 use Rattle.messages.specs.Requests.{carriedMessage}
 use Rattle.messages.specs.Settings.{Settings}
-use Rattle.ring.specs.Page.{pageSize, areaSize, reqConsAt, rspProdAt, countIn}
+use Rattle.page.specs.Page.{pageSize, areaSize, reqConsAt, rspProdAt, countIn}
 use Rattle.ring.specs.Reading.{messageLength}
 use Rattle.backend.specs.Streams.{settingsAfter}
 use Rattle.backend.proofs.Goodness.{good-interface}
-use Rattle.frontend.specs.Guest.{maxRequest, Told, number, acked, pending}
+use Rattle.guest_steps.specs.Guest.{maxRequest, Told, number, acked, pending}
 use Rattle.frontend.proofs.Goodness.{good-at-setup, good-started}
 use Rattle.ends.specs.Ends.{Ends, freshEnds, started, round, afterRounds, toldInRounds, answerOf, finished}
 use Rattle.ends.specs.Ends.{Made, AllMade, none, more, Agree, Served, toldOfAll, finishedAll, expectedOfAll, AllServed}

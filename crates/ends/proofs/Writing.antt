@@ -10,15 +10,15 @@ use lib.Seq.{length-take-le, take-append-le, drop-append-le}
 use lib.Dec.{eqb}
 use borrow.Author.Tests.{eq-eqb, le-leb, lt-ltb, le-ltb}
 use Rattle.octets.specs.Outcome.{value}
-use Rattle.ring.specs.Page.{pageSize, areaSize, requestsAt, advanced, octetsIn, put}
+use Rattle.page.specs.Page.{pageSize, areaSize, requestsAt, advanced, octetsIn, put}
 use Rattle.ring.specs.Writing.{fitting, sentOctets}
-use Rattle.ring.proofs.Places.{put-length}
+use Rattle.page.proofs.Places.{put-length}
 use Rattle.ring.proofs.Holdings.{holding-none}
-use Rattle.ring.proofs.Untouched.{put-stands, guest-counted-length, guest-counted-octets, guest-counted-cons, guest-counted-prod}
-use Rattle.frontend.specs.Guest.{idle, outstanding, failed, outgoing, owes, number, pending}
-use Rattle.frontend.specs.Calls.{After, unreadRequests, unreadAcks, Found, found, wroteOn, begun, startedBy, readied, startBy, startOf}
-use Rattle.frontend.specs.Calls.{readOn, eventBy, eventOf}
-use Rattle.frontend.specs.Guest.{GuestState}
+use Rattle.page.proofs.Untouched.{put-stands, guest-counted-length, guest-counted-octets, guest-counted-cons, guest-counted-prod}
+use Rattle.guest_steps.specs.Guest.{idle, outstanding, failed, outgoing, owes, number, pending}
+use Rattle.guest_steps.specs.Calls.{After, unreadRequests, unreadAcks, Found, found, wroteOn, begun, startedBy, readied, startBy, startOf}
+use Rattle.guest_steps.specs.Calls.{readOn, eventBy, eventOf}
+use Rattle.guest_steps.specs.Guest.{GuestState}
 use Rattle.ends.specs.Ends.{Ends, Agree, afterGuest, guestEvent, started}
 use Rattle.ends.proofs.Points.{Ready, Sent}
 

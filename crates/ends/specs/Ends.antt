@@ -10,16 +10,16 @@ use Rattle.octets.specs.Outcome.{Outcome, value}
 use Rattle.messages.specs.Wire.{typeIn}
 use Rattle.messages.specs.Requests.{requestOf, ackStatus, carriedMessage}
 use Rattle.messages.specs.Settings.{Settings}
-use Rattle.ring.specs.Page.{pageSize, areaSize, reqConsAt, rspProdAt, countIn}
-use Rattle.backend.specs.States.{interfaceAtSetup, Good as GoodHost}
-use Rattle.backend.specs.Events.{eventOf as hostEventOf, owes as hostOwes}
+use Rattle.page.specs.Page.{pageSize, areaSize, reqConsAt, rspProdAt, countIn}
+use Rattle.interface.specs.States.{interfaceAtSetup, Good as GoodHost}
+use Rattle.interface.specs.Events.{eventOf as hostEventOf, owes as hostOwes}
 use Rattle.backend.specs.Streams.{settingsAfter}
-use Rattle.backend.specs.States.{HostState}
+use Rattle.interface.specs.States.{HostState}
 use Rattle.guest_messages.specs.Reader.{Reading, answerTo}
-use Rattle.frontend.specs.Guest.{idle, guestAtSetup, Told, number, acked, pending, Good as GoodGuest}
-use Rattle.frontend.specs.Calls.{After, startOf, eventOf}
+use Rattle.guest_steps.specs.Guest.{idle, guestAtSetup, Told, number, acked, pending, Good as GoodGuest}
+use Rattle.guest_steps.specs.Calls.{After, startOf, eventOf}
 use Rattle.frontend.specs.Rules.{Asked}
-use Rattle.frontend.specs.Guest.{GuestState}
+use Rattle.guest_steps.specs.Guest.{GuestState}
 
 -- both ends and the page between them
 pub record Ends : Type 0 where

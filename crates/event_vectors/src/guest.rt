@@ -5,12 +5,12 @@ use crate::COUNTS;
 use cases::fill;
 use cases::patch;
 use cases::print_cut;
-use ring::AREA;
-use ring::REQ_CONS;
-use ring::REQ_PROD;
-use ring::REQUESTS;
-use ring::RSP_CONS;
-use ring::RSP_PROD;
+use page::AREA;
+use page::REQ_CONS;
+use page::REQ_PROD;
+use page::REQUESTS;
+use page::RSP_CONS;
+use page::RSP_PROD;
 
 // The kinds: octets put at a place, octets made there, octets sent, octets of acks taken, and other counts. Those between are
 // not the guest's.

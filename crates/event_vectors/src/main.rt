@@ -3,7 +3,7 @@
 ghost use mathlib.Core.Path.{_≡_};
 ghost use lib.ListN.{length};
 ghost use Rattle.messages.specs.Settings.{Good as GoodSettings};
-ghost use Rattle.backend.specs.States.{Good, settingsIn, interfaceIn};
+ghost use Rattle.interface.specs.States.{Good, settingsIn, interfaceIn};
 
 mod guest;
 
@@ -11,11 +11,11 @@ use answer_text::HostCase;
 use answer_text::answer_host;
 use answer_text::print_steered;
 use answer_text::set_up_first;
-use backend::ENTRY_COUNT;
-use backend::FLAGS;
-use backend::NUMBERS;
 use cases::PARTS;
 use cases::take_case;
+use interface::ENTRY_COUNT;
+use interface::FLAGS;
+use interface::NUMBERS;
 use messages::HEADER;
 use messages::MAX_ACK;
 use messages::MAX_ENTRIES;

@@ -16,18 +16,18 @@ use Rattle.toeplitz.specs.Hash.{keyLength}
 use Rattle.messages.specs.Wire.{fieldSize, message, setFlagsType, setKeyType, setMappingType, typeIn, allFlags}
 use Rattle.messages.specs.Settings.{isListed}
 use Rattle.messages.proofs.Powers.{listed-parts}
-use Rattle.ring.specs.Page.{responsesAt, octetsIn}
+use Rattle.page.specs.Page.{responsesAt, octetsIn}
 use Rattle.ring.specs.Reading.{whole, receivedFrom}
 use Rattle.ring.specs.Reading.{Incoming}
 use Rattle.ring.proofs.Sides.{grown, none-waits, good-received, good-sent}
 use Rattle.guest_messages.specs.Reader.{Reading}
 use Rattle.guest_messages.specs.Writer.{fieldsOf, getFlagsMessage, setFlagsMessage, setKeyMessage, setMappingMessage}
-use Rattle.frontend.specs.Guest.{idle, failed, maxRequest, maxAckPayload, incoming, withIncoming, owes, guestAtSetup, Good}
-use Rattle.frontend.specs.Calls.{After, Found, found, begun, wroteOn, startedBy, readied, startBy, startOf, doneWith}
-use Rattle.frontend.specs.Calls.{Seen, part, judged, sizeWrong, seen, concluded, readOn, eventBy, eventOf, left}
+use Rattle.guest_steps.specs.Guest.{idle, failed, maxRequest, maxAckPayload, incoming, withIncoming, owes, guestAtSetup, Good}
+use Rattle.guest_steps.specs.Calls.{After, Found, found, begun, wroteOn, startedBy, readied, startBy, startOf, doneWith}
+use Rattle.guest_steps.specs.Calls.{Seen, part, judged, sizeWrong, seen, concluded, readOn, eventBy, eventOf, left}
 use Rattle.frontend.specs.Rules.{Asked, getsFlags, setsFlags, setsKey, setsMapping}
-use Rattle.frontend.specs.Guest.{GuestState}
-use Rattle.frontend.specs.declared.GuestAnswer.{GuestAnswer}
+use Rattle.guest_steps.specs.Guest.{GuestState}
+use Rattle.guest_steps.specs.declared.GuestAnswer.{GuestAnswer}
 use Rattle.guest_messages.proofs.Theorems.{message-lengths}
 
 -- the writer's messages have their place

@@ -14,21 +14,21 @@ use Rattle.toeplitz.specs.Hash.{keyLength}
 use Rattle.toeplitz.specs.Refusals.{keyLengthWrong}
 use Rattle.messages.specs.Wire.{typeIn, allFlags}
 use Rattle.messages.specs.Settings.{isListed}
-use Rattle.ring.specs.Refusals.{pageWrong, requestsWrong, responsesWrong}
-use Rattle.ring.specs.Page.{pageSize, areaSize}
+use Rattle.page.specs.Refusals.{pageWrong, requestsWrong, responsesWrong}
+use Rattle.page.specs.Page.{pageSize, areaSize}
 use Rattle.guest_messages.specs.Refusals.{valueNotListed, notAnAck}
 use Rattle.guest_messages.specs.Reader.{Reading, status, statusAndFlags}
-use Rattle.frontend.specs.Refusals.{requestOutstanding}
-use Rattle.frontend.specs.Guest.{idle, outstanding, failed, owes, Told, number, acked, pending, requestOwed, toldOf, Good}
-use Rattle.frontend.specs.Calls.{After, Found, found, unreadRequests, unreadAcks, refusedWith, answeredWith, begun, wroteOn, startedBy, startBy}
-use Rattle.frontend.specs.Calls.{readied, startOf, Seen, part, judged, concluded, readOn, eventBy, eventOf}
+use Rattle.guest_steps.specs.Refusals.{requestOutstanding}
+use Rattle.guest_steps.specs.Guest.{idle, outstanding, failed, owes, Told, number, acked, pending, requestOwed, toldOf, Good}
+use Rattle.guest_steps.specs.Calls.{After, Found, found, unreadRequests, unreadAcks, refusedWith, answeredWith, begun, wroteOn, startedBy, startBy}
+use Rattle.guest_steps.specs.Calls.{readied, startOf, Seen, part, judged, concluded, readOn, eventBy, eventOf}
 use Rattle.frontend.specs.Rules.{Asked, getsFlags, setsFlags, setsKey, setsMapping, Accepted, room, afterReading, Awaits, ackSeen}
 use Rattle.frontend.specs.Rules.{Pends, no-request, last-written, ack-in-part, RefusesAck, before, now}
-use Rattle.frontend.specs.Guest.{GuestState}
-use Rattle.frontend.specs.declared.GuestAnswer.{GuestAnswer}
-use Rattle.frontend.specs.declared.GuestAnswer.the-variants.{Pending, RequestOwed, AckedStatus, AckedFlags, Refused}
-use Rattle.frontend.specs.declared.Refusal.{Refusal}
-use Rattle.frontend.specs.declared.Refusal.the-variants.{PageLength, RequestCount, ResponseCount, AckRefused, Outstanding, KeyRefused, ValueRefused}
+use Rattle.guest_steps.specs.Guest.{GuestState}
+use Rattle.guest_steps.specs.declared.GuestAnswer.{GuestAnswer}
+use Rattle.guest_steps.specs.declared.GuestAnswer.the-variants.{Pending, RequestOwed, AckedStatus, AckedFlags, Refused}
+use Rattle.guest_steps.specs.declared.Refusal.{Refusal}
+use Rattle.guest_steps.specs.declared.Refusal.the-variants.{PageLength, RequestCount, ResponseCount, AckRefused, Outstanding, KeyRefused, ValueRefused}
 use Rattle.frontend.proofs.Goodness.{judged-all}
 use Rattle.frontend.proofs.Ways.{found-ways, seen-ways, event-ways, start-ways}
 

@@ -11,20 +11,20 @@ use lib.Seq.{length-take-le}
 use lib.Dec.{eqb}
 use Rattle.octets.specs.Outcome.{Outcome, value, refused}
 use Rattle.toeplitz.specs.Refusals.{keyLengthWrong}
-use Rattle.ring.specs.Page.{pageSize, areaSize, reqConsAt, reqProdAt, rspConsAt, rspProdAt, requestsAt, responsesAt, countIn}
-use Rattle.ring.specs.Page.{less, countedByGuest, octetsIn, put}
+use Rattle.page.specs.Page.{pageSize, areaSize, reqConsAt, reqProdAt, rspConsAt, rspProdAt, requestsAt, responsesAt, countIn}
+use Rattle.page.specs.Page.{less, countedByGuest, octetsIn, put}
 use Rattle.ring.specs.Reading.{receivedFrom}
 use Rattle.ring.specs.Writing.{fitting, sentOctets, sent}
 use Rattle.ring.specs.Reading.{Incoming}
-use Rattle.ring.proofs.Places.{octets-none, put-length}
-use Rattle.ring.proofs.Untouched.{guest-counted-beside, guest-counted-length, guest-counted-cons, guest-counted-prod, guest-counted-others}
-use Rattle.ring.proofs.Untouched.{guest-counted-octets, put-other, put-stands, octets-agree}
+use Rattle.page.proofs.Places.{octets-none, put-length}
+use Rattle.page.proofs.Untouched.{guest-counted-beside, guest-counted-length, guest-counted-cons, guest-counted-prod, guest-counted-others}
+use Rattle.page.proofs.Untouched.{guest-counted-octets, put-other, put-stands, octets-agree}
 use Rattle.guest_messages.specs.Refusals.{valueNotListed}
-use Rattle.frontend.specs.Guest.{idle, outgoing, incoming, withOutgoing, owes, number, pending, requestOwed, toldNumber, Good}
-use Rattle.frontend.specs.Calls.{After, Found, found, unreadRequests, answeredWith, begun, wroteOn, startedBy, readied}
-use Rattle.frontend.specs.Calls.{startBy, startOf, Seen, part, judged, concluded, readOn, eventBy, eventOf}
+use Rattle.guest_steps.specs.Guest.{idle, outgoing, incoming, withOutgoing, owes, number, pending, requestOwed, toldNumber, Good}
+use Rattle.guest_steps.specs.Calls.{After, Found, found, unreadRequests, answeredWith, begun, wroteOn, startedBy, readied}
+use Rattle.guest_steps.specs.Calls.{startBy, startOf, Seen, part, judged, concluded, readOn, eventBy, eventOf}
 use Rattle.frontend.specs.Rules.{Asked, Accepted, room, NoOwnCount, moved, RequestPlace, WritesNext, Alike}
-use Rattle.frontend.specs.Guest.{GuestState}
+use Rattle.guest_steps.specs.Guest.{GuestState}
 use Rattle.frontend.proofs.Goodness.{asked-fits, good-begun, good-started, good-event}
 use Rattle.frontend.proofs.Ways.{event-ways, read-ways, start-ways}
 use Rattle.frontend.proofs.GuestAnswers.{asked-refused}

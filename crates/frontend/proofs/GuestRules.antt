@@ -10,13 +10,13 @@ use Rattle.octets.specs.Outcome.{Outcome, value, refused}
 use Rattle.messages.specs.Wire.{headerSize, fieldSize, typeIn, sizeIn}
 use Rattle.ring.specs.Reading.{whole}
 use Rattle.guest_messages.specs.Refusals.{notAnAck}
-use Rattle.frontend.specs.Refusals.{requestOutstanding}
+use Rattle.guest_steps.specs.Refusals.{requestOutstanding}
 use Rattle.guest_messages.specs.Reader.{Reading, readAck}
-use Rattle.frontend.specs.Guest.{idle, outstanding, failed, owes, number, acked, pending, requestOwed, incoming, Good}
-use Rattle.frontend.specs.Calls.{After, unreadAcks, refusedWith, answeredWith, begun}
-use Rattle.frontend.specs.Calls.{wroteOn, startedBy, startOf, messageOctets, seen, concluded, readOn, eventOf}
+use Rattle.guest_steps.specs.Guest.{idle, outstanding, failed, owes, number, acked, pending, requestOwed, incoming, Good}
+use Rattle.guest_steps.specs.Calls.{After, unreadAcks, refusedWith, answeredWith, begun}
+use Rattle.guest_steps.specs.Calls.{wroteOn, startedBy, startOf, messageOctets, seen, concluded, readOn, eventOf}
 use Rattle.frontend.specs.Rules.{Accepted, room, afterReading, Reached, fromSetUp, fromStart, fromEvent}
-use Rattle.frontend.specs.Guest.{GuestState}
+use Rattle.guest_steps.specs.Guest.{GuestState}
 use Rattle.frontend.proofs.Goodness.{asked-fits, good-at-setup, good-started, good-event}
 use Rattle.frontend.proofs.Ways.{event-ways, read-ways, start-ways}
 use Rattle.frontend.proofs.GuestAnswers.{number-same, acked-same, acked-no-number, wrote-low, wrote-no-ack}

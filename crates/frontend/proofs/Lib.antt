@@ -1,6 +1,5 @@
 -- The laws behind the promises of `frontend`, and the theorems over its definitions.
 pub mod Goodness
-pub mod Stored
 pub mod Starts
 pub mod Collects
 pub mod Ways

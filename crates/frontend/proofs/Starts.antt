@@ -1,4 +1,4 @@
--- What a call finds on the page, by its tests; and what a start does, by what it finds and by what the writer answers.
+-- What a start does, by what it finds and by what the writer answers.
 -- Assumes nothing.
 use mathlib.Core.Path.{_≡_, refl, sym, ap, _∙_}
 use mathlib.Core.List.{List, _++_}
@@ -15,64 +15,28 @@ use Rattle.toeplitz.specs.Hash.{keyLength}
 use Rattle.toeplitz.specs.Refusals.{keyLengthWrong}
 use Rattle.messages.specs.Wire.{allFlags}
 use Rattle.messages.specs.Settings.{isListed}
-use Rattle.ring.specs.Refusals.{pageWrong, requestsWrong, responsesWrong}
-use Rattle.ring.specs.Page.{pageSize, areaSize, requestsAt, advanced, countedByGuest, put}
+use Rattle.page.specs.Refusals.{pageWrong, requestsWrong, responsesWrong}
+use Rattle.page.specs.Page.{pageSize, areaSize, requestsAt, advanced, countedByGuest, put}
 use Rattle.ring.specs.Writing.{fitting, sentOctets, sent}
 use Rattle.guest_messages.specs.Refusals.{valueNotListed, bufferTooShort, notAnAck}
 use Rattle.guest_messages.specs.Writer.{After, written, writtenOutcomeOf, after}
 use Rattle.guest_messages.specs.declared.Written.{Written}
 use Rattle.guest_messages.specs.declared.Written.the-variants.{Length, Buffer}
-use Rattle.frontend.specs.Refusals.{requestOutstanding}
-use Rattle.frontend.specs.Guest.{GuestState, maxRequest, idle, outstanding, failed, guestOf, guestIn, outgoing, withOutgoing}
-use Rattle.frontend.specs.Guest.{number, pending, requestOwed, refusalNumber, toldOf}
-use Rattle.frontend.specs.Calls.{Found, unreadRequests, unreadAcks, found, wroteOn, messageOf, startedBy, readied, startBy, startOf, left}
+use Rattle.guest_steps.specs.Refusals.{requestOutstanding}
+use Rattle.guest_steps.specs.Guest.{GuestState, maxRequest, idle, outstanding, failed, guestOf, guestIn, outgoing, withOutgoing}
+use Rattle.guest_steps.specs.Guest.{number, pending, requestOwed, refusalNumber, toldOf}
+use Rattle.guest_steps.specs.Calls.{Found, unreadRequests, unreadAcks, found, wroteOn, messageOf, startedBy, readied, startBy, startOf, left}
 use Rattle.frontend.specs.Rules.{Asked, getsFlags, setsFlags, setsKey, setsMapping}
-use Rattle.frontend.specs.declared.Ask.{Ask}
-use Rattle.frontend.specs.declared.Ask.the-variants.{GetFlags, SetFlags, SetKey, SetMapping}
-use Rattle.frontend.specs.declared.Refusal.{Refusal}
-use Rattle.frontend.specs.declared.GuestAnswer.{GuestAnswer}
-use Rattle.frontend.specs.declared.GuestAnswer.the-variants.{Refused}
+use Rattle.guest_steps.specs.declared.Ask.{Ask}
+use Rattle.guest_steps.specs.declared.Ask.the-variants.{GetFlags, SetFlags, SetKey, SetMapping}
+use Rattle.guest_steps.specs.declared.Refusal.{Refusal}
+use Rattle.guest_steps.specs.declared.GuestAnswer.{GuestAnswer}
+use Rattle.guest_steps.specs.declared.GuestAnswer.the-variants.{Refused}
 use Rattle.frontend.proofs.Goodness.{asked-fits}
-use Rattle.frontend.proofs.Stored.{stored-outgoing}
+use Rattle.guest_steps.proofs.Stored.{stored-outgoing}
 use Rattle.frontend.proofs.Ways.{found-ways}
 
--- what a call finds: the page is wrong, or the one count, or the other; or an ack was refused; or the counts are good
 module _ (g : GuestState) (page : List ℕ) where
-  pub found-page : (length page ≡ pageSize → ⊥) → refused pageWrong ≡ found g page
-  unfolding found
-  found-page wrong = rw (ne-eqb _ _ wrong) refl
-
-  module _ (n : ℕ) (size : length page ≡ pageSize) (requests : n ≡ unreadRequests g page) where
-    pub found-requests : areaSize < n → refused requestsWrong ≡ found g page
-    unfolding found
-    found-requests many = rw (eq-eqb _ _ size, ← requests, lt-leb _ _ many) refl
-
-    module _ (m : ℕ) (few : n ≤ areaSize) (acks : m ≡ unreadAcks g page) where
-      pub found-responses : areaSize < m → refused responsesWrong ≡ found g page
-      unfolding found
-      found-responses many = rw (eq-eqb _ _ size, ← requests, le-leb _ _ few, ← acks, lt-leb _ _ many) refl
-
-      pub found-failed : m ≤ areaSize → g .phase ≡ failed → refused notAnAck ≡ found g page
-      unfolding found
-      found-failed some p = rw (eq-eqb _ _ size, ← requests, le-leb _ _ few, ← acks, le-leb _ _ some, eq-eqb _ _ p) refl
-
-      pub found-counts : m ≤ areaSize → (g .phase ≡ failed → ⊥) → value (record { room = areaSize - n; unread = m }) ≡ found g page
-      unfolding found
-      found-counts some p = rw (eq-eqb _ _ size, ← requests, le-leb _ _ few, ← acks, le-leb _ _ some, ne-eqb _ _ p) refl
-
-  -- what a start finds, by what a call finds
-  pub readied-refused : (k : ℕ) → refused k ≡ found g page → refused k ≡ readied (found g page) g
-  unfolding readied
-  readied-refused k e = rw (← e) refl
-
-  pub readied-idle : (f : Found) → value f ≡ found g page → g .phase ≡ idle → value (f .room) ≡ readied (found g page) g
-  unfolding readied
-  readied-idle f e p = rw (← e, eq-eqb _ _ p) refl
-
-  pub readied-busy : (f : Found) → value f ≡ found g page → (g .phase ≡ idle → ⊥) → refused requestOutstanding ≡ readied (found g page) g
-  unfolding readied
-  readied-busy f e p = rw (← e, ne-eqb _ _ p) refl
-
   -- room for a start is room in the area of a whole page
   module _ (room : ℕ) where
     abbrev Known : Outcome Found → Type 0
@@ -88,25 +52,6 @@ module _ (g : GuestState) (page : List ℕ) where
         found-ways g page Known (λ w. not-refused _) (λ s m. not-refused _) (λ s r m. not-refused _) (λ ok f. not-refused _)
         (λ ok w e. let same = test-value (eqb (g .phase) idle) (areaSize - unreadRequests g page) room requestOutstanding (sym e) .1 in
         (ok .size, omega (arith, same)))
-
--- octets of the request sent, and both counts written
-pub writes-on : (g : GuestState) (page : List ℕ) (room n : ℕ) (r : GuestAnswer) (octets : List ℕ) → n ≡ fitting (outgoing g) room
-    → octets ≡ countedByGuest (put requestsAt page (g .«req_prod») (sentOctets (outgoing g) n)) (g .«rsp_cons») (advanced (g .«req_prod») n)
-    → toldOf r ≡ number (cond (ltb (g .written + n) (g .length)) requestOwed pending)
-    → left r (withOutgoing g (sent (outgoing g) n)) octets ≡ wroteOn g page room
-unfolding wroteOn
-writes-on g page room n r octets fits written answer = rw (answer, written, fits) refl
-
--- the same, counted at their places
-pub stored-writes : (numbers request header payload : List ℕ) → length numbers ≡ 6 → (page octets : List ℕ) (room n written prod : ℕ) (r : GuestAnswer)
-    → written ≡ getD numbers 2 0 + n → prod ≡ advanced (getD numbers 3 0) n → n ≡ fitting (outgoing (guestIn numbers request header payload)) room
-    → octets ≡ countedByGuest (put requestsAt page (getD numbers 3 0) (sentOctets (outgoing (guestIn numbers request header payload)) n))
-    (getD numbers 5 0) prod
-    → toldOf r ≡ number (cond (ltb written (getD numbers 1 0)) requestOwed pending)
-    → left r (guestIn (set (set numbers 2 written) 3 prod) request header payload) octets ≡ wroteOn (guestIn numbers request header payload) page room
-stored-writes numbers request header payload long page octets room n written prod r ew ep fits eo answer =
-    rw (stored-outgoing numbers request header payload long written prod, ew, ep)
-    (writes-on (guestIn numbers request header payload) page room n r octets fits (rw ep at eo) (rw ew at answer))
 
 -- what a writer that answers a length n has done
 pub record Wrote (o : Outcome (List ℕ)) (request : List ℕ) (n : ℕ) (buffer : List ℕ) : Type 0 where

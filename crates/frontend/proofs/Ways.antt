@@ -13,17 +13,17 @@ use Rattle.octets.proofs.Truth.{by-test}
 use Rattle.octets.proofs.Outcomes.{value-same, refused-same, value-not-refused}
 use Rattle.messages.specs.Wire.{typeIn}
 use Rattle.messages.specs.Requests.{requestOf}
-use Rattle.ring.specs.Refusals.{pageWrong, requestsWrong, responsesWrong}
-use Rattle.ring.specs.Page.{pageSize, areaSize}
+use Rattle.page.specs.Refusals.{pageWrong, requestsWrong, responsesWrong}
+use Rattle.page.specs.Page.{pageSize, areaSize}
 use Rattle.ring.specs.Reading.{whole}
 use Rattle.guest_messages.specs.Refusals.{notAnAck}
-use Rattle.frontend.specs.Refusals.{requestOutstanding}
+use Rattle.guest_steps.specs.Refusals.{requestOutstanding}
 use Rattle.guest_messages.specs.Reader.{Reading, isAckTo, readingOf, readAck}
-use Rattle.frontend.specs.Guest.{idle, failed, withIncoming, owes, number, acked, pending}
-use Rattle.frontend.specs.Calls.{After, Found, unreadRequests, unreadAcks, found, refusedWith, answeredWith, wroteOn, startedBy, readied, startBy}
-use Rattle.frontend.specs.Calls.{startOf, sizeWrong, messageOctets, Seen, part, judged, seen, doneWith, concluded, readOn, eventBy, eventOf}
+use Rattle.guest_steps.specs.Guest.{idle, failed, withIncoming, owes, number, acked, pending}
+use Rattle.guest_steps.specs.Calls.{After, Found, unreadRequests, unreadAcks, found, refusedWith, answeredWith, wroteOn, startedBy, readied, startBy}
+use Rattle.guest_steps.specs.Calls.{startOf, sizeWrong, messageOctets, Seen, part, judged, seen, doneWith, concluded, readOn, eventBy, eventOf}
 use Rattle.frontend.specs.Rules.{Accepted, room, afterReading}
-use Rattle.frontend.specs.Guest.{GuestState}
+use Rattle.guest_steps.specs.Guest.{GuestState}
 
 -- what a call finds keeps to the areas of a whole page
 pub record Within (page : List ℕ) (f : Found) : Type 0 where

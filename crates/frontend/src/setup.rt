@@ -1,9 +1,9 @@
 // A new guest, written in place.
 ghost use mathlib.Core.Path.{_≡_};
-ghost use Rattle.frontend.specs.Guest.{guestIn, guestAtSetup};
-use crate::MAX_ACK_PAYLOAD;
-use crate::MAX_REQUEST;
-use crate::NUMBERS;
+ghost use Rattle.guest_steps.specs.Guest.{guestIn, guestAtSetup};
+use guest_steps::MAX_ACK_PAYLOAD;
+use guest_steps::MAX_REQUEST;
+use guest_steps::NUMBERS;
 use messages::HEADER;
 
 // Sets up the guest whose parts are lent: no request, and both own counts 0. Every octet of it is written.

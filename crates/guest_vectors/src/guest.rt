@@ -3,23 +3,23 @@ ghost use mathlib.Core.Path.{_≡_};
 ghost use mathlib.Core.List.{List};
 ghost use Prim.Native.Nat.{ℕ, _≤_};
 ghost use lib.ListN.{length};
-ghost use Rattle.frontend.specs.Guest.{Good, guestIn};
+ghost use Rattle.guest_steps.specs.Guest.{Good, guestIn};
 use crate::lines::print_called;
 use cases::MAX_GIVEN;
 use cases::entries_in;
 use cases::number_at;
 use cases::print_cut;
 use cases::print_word;
-use frontend::Ask;
-use frontend::GuestAnswer;
-use frontend::MAX_ACK_PAYLOAD;
-use frontend::MAX_REQUEST;
-use frontend::NUMBERS;
-use frontend::OWN_REQ_PROD;
-use frontend::OWN_RSP_CONS;
+use guest_steps::Ask;
+use guest_steps::GuestAnswer;
+use guest_steps::MAX_ACK_PAYLOAD;
+use guest_steps::MAX_REQUEST;
+use guest_steps::NUMBERS;
+use guest_steps::OWN_REQ_PROD;
+use guest_steps::OWN_RSP_CONS;
 use messages::HEADER;
-use ring::REQ_PROD;
-use ring::RSP_CONS;
+use page::REQ_PROD;
+use page::RSP_CONS;
 
 // The kinds: a new guest, the four starts, between them and other counts an event, and octets put into the buffer. Those
 // between are the host's.

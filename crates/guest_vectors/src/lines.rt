@@ -2,15 +2,15 @@
 use cases::print_digest;
 use cases::print_number;
 use cases::print_word;
-use frontend::GuestAnswer;
-use frontend::NUMBERS;
-use frontend::OWN_REQ_PROD;
-use frontend::OWN_RSP_CONS;
-use frontend::PHASE;
-use frontend::REQUEST_OUTSTANDING;
-use frontend::Refusal;
 use guest_messages::NOT_AN_ACK;
 use guest_messages::VALUE_NOT_LISTED;
+use guest_steps::GuestAnswer;
+use guest_steps::NUMBERS;
+use guest_steps::OWN_REQ_PROD;
+use guest_steps::OWN_RSP_CONS;
+use guest_steps::PHASE;
+use guest_steps::REQUEST_OUTSTANDING;
+use guest_steps::Refusal;
 use toeplitz::KEY_LENGTH_WRONG;
 
 // The answer, the guest's phase and own counts, and all octets of the buffer.

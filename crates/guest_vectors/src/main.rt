@@ -2,8 +2,8 @@
 // guest, one interface of the host and one page, one after the other. The parts of both ends stand in `main`, and are lent.
 ghost use mathlib.Core.Path.{_≡_};
 ghost use lib.ListN.{length};
-ghost use Rattle.backend.specs.States.{Good, interfaceIn};
-ghost use Rattle.frontend.specs.Guest.{Good as GoodGuest, guestIn};
+ghost use Rattle.interface.specs.States.{Good, interfaceIn};
+ghost use Rattle.guest_steps.specs.Guest.{Good as GoodGuest, guestIn};
 
 mod guest;
 mod lines;
@@ -11,12 +11,12 @@ mod lines;
 use answer_text::HostCase;
 use answer_text::answer_host;
 use answer_text::set_up_first;
-use backend::NUMBERS;
 use cases::PARTS;
 use cases::take_case;
-use frontend::MAX_ACK_PAYLOAD;
-use frontend::MAX_REQUEST;
 use guest::COUNTS;
+use guest_steps::MAX_ACK_PAYLOAD;
+use guest_steps::MAX_REQUEST;
+use interface::NUMBERS;
 use messages::HEADER;
 use messages::MAX_ACK;
 use messages::MAX_ENTRIES;
@@ -31,7 +31,7 @@ const EVENT: u8 = 8;
 fn main() {
     let mut buffer = io::large_buffer();
     let mut page = cases::blank();
-    let mut own = [0u64; frontend::NUMBERS];
+    let mut own = [0u64; guest_steps::NUMBERS];
     let mut request = [0u8; MAX_REQUEST];
     let mut ack_header = [0u8; HEADER];
     let mut ack_payload = [0u8; MAX_ACK_PAYLOAD];
@@ -72,7 +72,7 @@ fn main() {
 
 // Runs the cases of one file on the ends and the page that those before it left.
 fn run<'a>(
-    own: &'a mut [u64; frontend::NUMBERS],
+    own: &'a mut [u64; guest_steps::NUMBERS],
     request: &'a mut [u8; MAX_REQUEST],
     ack_header: &'a mut [u8; HEADER],
     ack_payload: &'a mut [u8; MAX_ACK_PAYLOAD],

@@ -81,7 +81,8 @@ module _ (s : Settings) (link : Link) where
     captured-more = refl
 
     -- one more has room, where all records together are not too many
-    pub counting-room : q < maxQueues → length (all .records) + capturedOctets (all .records) ≤ 65536 → HasRoom (choiceFor s link r) (length r) packets octets
+    pub counting-room : q < maxQueues → length (all .records) + capturedOctets (all .records) ≤ 65536
+        → HasRoom (choiceFor s link r) (length r) packets octets
     counting-room below most =
         let self : _≡_ {A = ℕ} (cond (eqb q q) 1 0) 1 = rw (eq-eqb q q refl) refl in
         let whole : cond (eqb q q) (length r) 0 ≡ length r = rw (eq-eqb q q refl) refl in
@@ -125,7 +126,8 @@ module _ (s : Settings) (link : Link) where
     counting-bad n e = rw (← c .left, test-refused (eqb (length (rest .left)) 0) (rest .records) recordWrong n e .0) refl
 
   -- behind the last
-  module _ (all : Fall) (packets octets : List ℕ) (u p o : ℕ) (few : s .queues ≤ maxQueues) (c : Counting all (noRecord []) packets octets u p o) where
+  module _ (all : Fall) (packets octets : List ℕ) (u p o : ℕ) (few : s .queues ≤ maxQueues)
+      (c : Counting all (noRecord []) packets octets u p o) where
     pub counting-all : allOf all ≡ value (all .records)
     counting-all = rw (← c .left) refl
 
@@ -136,10 +138,12 @@ module _ (s : Settings) (link : Link) where
     unfolding capturedOctets
     captured-none = refl
 
-    pub counting-done : record { queues = rising (s .queues) tally-at; unhashed = u; total = record { packets = p; octets = o } } ≡ countedOver s link (all .records)
+    pub counting-done : record { queues = rising (s .queues) tally-at; unhashed = u; total = record { packets = p; octets = o } }
+        ≡ countedOver s link (all .records)
     unfolding countedOver
     counting-done =
         let same : (k : ℕ) → k < s .queues → tally-at k ≡ tallyOf (onQueue s link k (all .records)) =
-        λ k l. tally-same _ _ _ _ (omega (arith, c .packets k (omega arith), those-none (on k) .0)) (omega (arith, c .octets k (omega arith), those-none (on k) .1)) in
+        λ k l. tally-same _ _ _ _ (omega (arith, c .packets k (omega arith), those-none (on k) .0))
+        (omega (arith, c .octets k (omega arith), those-none (on k) .1)) in
         counted-same _ _ _ _ _ _ _ _ (rising-same (s .queues) tally-at (λ (k : ℕ). tallyOf (onQueue s link k (all .records))) same)
         (omega (arith, c .unhashed, those-none no-hash .0)) (omega (arith, c .total-packets)) (omega (arith, c .total-octets, captured-none))

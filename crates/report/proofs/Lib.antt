@@ -1,6 +1,4 @@
 -- The laws of `report`.
-pub mod Loads
-pub mod Firsts
 pub mod Tallies
 pub mod Counters
 pub mod Orders

@@ -10,7 +10,7 @@ use Rattle.messages.specs.Settings.{Settings}
 use Rattle.capture.specs.Header.{headerOutcome}
 use Rattle.capture.specs.Records.{recordWrong, recordsOutcome}
 use Rattle.capture.specs.declared.Link.{Link}
-use Rattle.report.specs.Loading.{settingsOutcome}
+use Rattle.settings_file.specs.Loading.{settingsOutcome}
 use Rattle.report.specs.Counting.{countedOver}
 use Rattle.report.specs.Reports.{fileTooLong, maxFile, reportOver, reportUnder, reportOn}
 
@@ -37,7 +37,8 @@ module _ (file capture : List ℕ) (l : length file ≤ maxFile) (k : length cap
 pub header-refused : (s : Settings) (capture : List ℕ) (n : ℕ) → refused n ≡ headerOutcome capture → refused n ≡ reportUnder s capture
 header-refused s capture n e = rw (← e) refl
 
-pub header-read : (s : Settings) (capture : List ℕ) (link : Link) → value link ≡ headerOutcome capture → reportOver s link capture ≡ reportUnder s capture
+pub header-read : (s : Settings) (capture : List ℕ) (link : Link) → value link ≡ headerOutcome capture
+    → reportOver s link capture ≡ reportUnder s capture
 header-read s capture link e = rw (← e) refl
 
 -- then the records

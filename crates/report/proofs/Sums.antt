@@ -39,7 +39,8 @@ sum-one (suc n) zero w h =
     omega (arith, first, others)
 sum-one (suc n) (suc q) w h =
     let first : _≡_ {A = ℕ} (cond (eqb (suc q) 0) w 0) 0 = rw (ne-eqb (suc q) 0 (λ e. omega (arith, e))) refl in
-    let others = sum-same n (λ (k : ℕ). cond (eqb (suc q) (suc k)) w 0) (λ (k : ℕ). cond (eqb q k) w 0) (λ k. ap (λ (t : Bool). cond t w 0) (eqb-suc q k)) in
+    let others = sum-same n (λ (k : ℕ). cond (eqb (suc q) (suc k)) w 0) (λ (k : ℕ). cond (eqb q k) w 0)
+    (λ k. ap (λ (t : Bool). cond t w 0) (eqb-suc q k)) in
     omega (arith, first, others, sum-one n q w (omega arith))
   where
     eqb-suc : (q k : ℕ) → eqb (suc q) (suc k) ≡ eqb q k

@@ -20,7 +20,7 @@ use Rattle.messages.specs.Requests.{carriedMessage}
 use Rattle.messages.proofs.Theorems.{header-bounds-payload, good-stays-good, good-at-setup}
 use Rattle.packet.specs.Packets.{PacketType, noType, hashType, isIpv4, isIpv6, kindOf}
 use Rattle.steering.specs.Steering.{queueIn, typeUsed, chosen}
-use Rattle.backend.specs.States.{HostState, queuesWrong, interfaceAtSetup, setUpOutcome}
+use Rattle.interface.specs.States.{HostState, queuesWrong, interfaceAtSetup, setUpOutcome}
 use Rattle.backend.specs.Streams.{messagesIn, restOf, Messages, none, more, settingsAfter, Served}
 use Rattle.backend.proofs.Queues.{good-queue}
 use Rattle.backend.proofs.Falls.{messages-whole}
@@ -30,7 +30,7 @@ use Rattle.capture.specs.Records.{recordsOutcome}
 use Rattle.capture.specs.Packets.{holdsIp, ipPart}
 use Rattle.capture.specs.declared.Link.{Link}
 use Rattle.capture.specs.declared.Link.the-variants.{Ethernet}
-use Rattle.report.specs.Loading.{settingsWrong, allSucceed, settingsFrom, settingsOutcome}
+use Rattle.settings_file.specs.Loading.{settingsWrong, allSucceed, settingsFrom, settingsOutcome}
 use Rattle.report.specs.Counting.{tallyOf, choiceFor, isUnhashed, unhashedOf, onQueue, Counted, countedOver, sumOf}
 use Rattle.report.specs.Reports.{fileTooLong, maxFile, reportOver, reportUnder, reportOn}
 use Rattle.report.proofs.Tallies.{those-one, those-none}

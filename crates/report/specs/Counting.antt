@@ -7,7 +7,7 @@ use lib.ListN.{length}
 use lib.Dec.{eqb}
 use Rattle.messages.specs.Settings.{Settings}
 use Rattle.steering.specs.Steering.{Choice, unhashed, hashed, queueIn}
-use Rattle.backend.specs.States.{steeredBy}
+use Rattle.interface.specs.States.{steeredBy}
 use Rattle.capture.specs.Records.{capturedOctets}
 use Rattle.capture.specs.Packets.{ipPart}
 use Rattle.capture.specs.declared.Link.{Link}

@@ -3,43 +3,12 @@
 use mathlib.Core.Path.{_≡_}
 use mathlib.Core.List.{List}
 use mathlib.Core.Bool.{cond}
-use Prim.Native.Nat.{ℕ, _+_, _^_, _≤_, _<_}
-use lib.ListN.{length, getD, take, drop, set}
-use Rattle.octets.specs.Outcome.{refused, placed, itself}
-use Rattle.messages.specs.Wire.{maxPayload}
-use Rattle.messages.specs.Settings.{Settings, maxQueues, settingsOf, Good}
-use Rattle.messages.specs.Requests.{Carried, ackStatus}
+use Prim.Native.Nat.{ℕ, _+_, _^_, _<_}
+use lib.ListN.{getD, set}
+use Rattle.messages.specs.Settings.{maxQueues}
 use Rattle.steering.specs.Steering.{Choice, queueIn}
-use Rattle.backend.specs.States.{interfaceAtSetup, setUpOutcome}
-use Rattle.report.specs.Loading.{settingsWrong, settingsFrom}
 use Rattle.report.specs.Counting.{isUnhashed}
 use Rattle.report.specs.declared.Counts.{Counts}
-use Rattle.report.specs.declared.load.Held.{Held}
-
--- the settings that are held while a file is read
-abbrev pub settingsHeld : Held → Settings
-settingsHeld h = settingsOf (h .queues) (h .flags) (h .key) (h .entries) (h .count)
-
--- the settings that setup leaves: where it is refused, those of one queue
-abbrev pub settingsSetUp : ℕ → Settings
-settingsSetUp queues = placed itself (setUpOutcome queues) (interfaceAtSetup 1) .settings
-
--- a message carried out: what it is acked with, and what it leaves
-pub record LeavesAcked (c : Carried) (status : ℕ) (left : Settings) : Type 0 where
-  pub acked : status ≡ ackStatus c
-  pub leaves : left ≡ c .settings
-
--- octets that begin with a message of n octets, which leaves the settings `left`; n is 0 where it is refused
-pub record CarriesFirst (s : Settings) (xs : List ℕ) (n : ℕ) (left : Settings) : Type 0 where
-  pub good : Good left
-  pub refuses : n ≡ 0 → settingsFrom s xs ≡ refused settingsWrong
-  pub inside : n ≤ length xs
-  pub goes-on : 0 < n → settingsFrom s xs ≡ settingsFrom left (drop n xs)
-
--- what is kept of a payload: 1,024 octets, which begin with the payload unless it is longer
-pub record Keeps (payload kept : List ℕ) : Type 0 where
-  pub size : length kept ≡ maxPayload
-  pub begins : length payload ≤ maxPayload → take (length payload) kept ≡ payload
 
 -- counts with n more at index k
 abbrev pub addedAt : List ℕ → ℕ → ℕ → List ℕ

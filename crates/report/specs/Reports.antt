@@ -10,10 +10,8 @@ use Rattle.messages.specs.Settings.{Settings}
 use Rattle.capture.specs.Header.{headerOutcome}
 use Rattle.capture.specs.Records.{recordsOutcome}
 use Rattle.capture.specs.declared.Link.{Link}
-use Rattle.report.specs.Loading.{settingsOutcome}
+use Rattle.settings_file.specs.Loading.{settingsOutcome, outcomeOf}
 use Rattle.report.specs.Counting.{rising, Counted, countedOver}
-use Rattle.report.specs.declared.Answer.{Answer}
-use Rattle.report.specs.declared.Answer.the-variants.{Done, Refused}
 use Rattle.report.specs.declared.Counts.{Counts}
 use Rattle.report.specs.declared.Report.{Report}
 
@@ -37,11 +35,6 @@ unfoldable pub reportOn : List ℕ → List ℕ → Outcome Counted
 reportOn settings capture =
     cond (leb (length settings) maxFile && leb (length capture) maxFile)
     (andThen (settingsOutcome settings) (λ (s : Settings). reportUnder s capture)) (refused fileTooLong)
-
--- the number and value that an answer stands for: in a refusal, what is held beside it is no part of it
-abbrev pub outcomeOf : {A : Type 0} → Answer → A → Outcome A
-outcomeOf Done x = value x
-outcomeOf (Refused n) x = refused n
 
 -- what counts stand for: of the arrays, what belongs to the queues in operation
 abbrev pub countedOf : Counts → Counted

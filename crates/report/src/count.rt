@@ -7,19 +7,20 @@ ghost use Rattle.octets.specs.Outcome.{refused as refusal};
 ghost use Rattle.messages.specs.Settings.{maxQueues, isListed, Good};
 ghost use Rattle.steering.specs.Steering.{choiceOf, queueIn, steered};
 ghost use Rattle.capture.specs.Packets.{ipPart};
+ghost use Rattle.settings_file.specs.Loading.{settingsHeld};
 ghost use Rattle.report.specs.Counting.{isUnhashed};
 ghost use Rattle.report.specs.Reports.{maxFile, reportOver, reportOf};
-ghost use Rattle.report.specs.Inner.{settingsHeld, addedAt, HasRoom, CountsOne, countsOf};
+ghost use Rattle.report.specs.Inner.{addedAt, HasRoom, CountsOne, countsOf};
 use crate::Answer;
 use crate::Counts;
 use crate::MAX_QUEUES;
 use crate::Report;
-use crate::load::Held;
 use capture::CAPTURE_HEADER;
 use capture::Link;
 use capture::RECORD_WRONG;
 use capture::Step;
 use messages::MAX_ENTRIES;
+use settings_file::Held;
 use steering::Steered;
 use toeplitz::KEY_LENGTH;
 
@@ -112,7 +113,8 @@ fn count_record(
     octets: &mut [u32; MAX_QUEUES],
 ) -> u32
     requires { ⌜ isListed count ≡ true ⌝ }
-    requires { ⌜ HasRoom (steered flags (now key) (take count (now entries)) (ipPart link (now frame))) (length (now frame)) (now packets) (now octets) ⌝ }
+    requires { ⌜ HasRoom (steered flags (now key) (take count (now entries)) (ipPart link (now frame)))
+        (length (now frame)) (now packets) (now octets) ⌝ }
     ensures { λ r. ⌜ CountsOne (steered flags (now (key .entry)) (take count (now (entries .entry))) (ipPart link (now (frame .entry))))
         (length (now (frame .entry))) (now (packets .entry)) (now (octets .entry)) (now (packets .exit)) (now (octets .exit)) r ⌝ }
 {

@@ -3,36 +3,26 @@ ghost use mathlib.Core.Path.{_≡_};
 ghost use Prim.Native.Nat.{_≤_};
 ghost use lib.ListN.{length};
 ghost use Rattle.messages.specs.Settings.{maxQueues, Good};
+ghost use Rattle.settings_file.specs.Loading.{settingsHeld};
 ghost use Rattle.report.specs.Reports.{maxFile, reportUnder, reportOn, reportOf};
-ghost use Rattle.report.specs.Inner.{settingsHeld};
 
 mod count;
-mod load;
 
 use capture::HEADER_WRONG;
 use capture::HeaderAnswer;
 use count::count_records;
 use count::refused;
-use load::Held;
-use load::load_settings;
+pub use settings_file::Answer;
+use settings_file::Held;
+use settings_file::load_settings;
 
-// The refusals of the files: too long, no good queue count, and a message cut short or not acked with success.
+// The refusal of a file that is too long.
 pub const FILE_TOO_LONG: u8 = 23;
-
-pub const QUEUES_WRONG: u8 = 6;
-
-pub const SETTINGS_WRONG: u8 = 22;
 
 // The most octets of a file, and the most queues.
 pub const MAX_FILE: usize = 65536;
 
 pub const MAX_QUEUES: usize = backend::MAX_QUEUES as usize;
-
-// Whether there is what was asked for, or the number of the refusal.
-pub enum Answer {
-    Done,
-    Refused(u8),
-}
 
 // Packets and captured octets for each queue, of which the first `queues` are in operation; how many packets have no
 // hash, which are counted on queue 0 too; and the total.

@@ -1,7 +1,4 @@
 -- The laws of `ring` that other crates cite.
-pub mod Places
-pub mod CountLaws
-pub mod Untouched
 pub mod Turns
 pub mod Steps
 pub mod Sides

@@ -11,7 +11,7 @@ use borrow.Author.Tests.{lt-leb}
 use Rattle.octets.proofs.Truth.{by-test}
 use Rattle.messages.specs.Wire.{headerSize, maxPayload}
 use Rattle.messages.specs.Requests.{maxAck}
-use Rattle.ring.specs.Page.{advanced, less, octetsIn}
+use Rattle.page.specs.Page.{advanced, less, octetsIn}
 use Rattle.ring.specs.Reading.{messageLength, isWhole, whole, withOctet, received, receivedFrom, incomingAtSetup, GoodIncoming}
 use Rattle.ring.specs.Writing.{fitting, sent, outgoingAtSetup, GoodOutgoing}
 use Rattle.ring.specs.Reading.{Message}

@@ -12,13 +12,13 @@ use lib.Dec.{leb, ltb}
 use borrow.Author.Tests.{lt-leb, ltb-true, ltb-false, leb-true, leb-false}
 use borrow.Rule.Slice.PartMut.{putMid}
 use Rattle.messages.specs.Wire.{headerSize}
-use Rattle.ring.specs.Page.{advanced, octetsIn}
+use Rattle.page.specs.Page.{advanced, octetsIn}
 use Rattle.ring.specs.Reading.{messageLength, isWhole, whole, withOctet, received, receivedFrom}
 use Rattle.ring.specs.Inner.{headerMoved, payloadMoved}
 use Rattle.ring.specs.Reading.{Message}
 use Rattle.ring.specs.Reading.{Incoming}
 use Rattle.ring.proofs.Turns.{parts, with-header, with-payload, received-none, received-next, received-whole}
-use Rattle.ring.proofs.Places.{octets-same, octets-length, octets-none, octets-add, octets-take}
+use Rattle.page.proofs.Places.{octets-same, octets-length, octets-none, octets-add, octets-take}
 
 -- octets of one list and then of another
 append-by : (b : Bool) (x : ℕ) (xs ys : List ℕ) (m : Message) → whole m ≡ b

@@ -1,6 +1,4 @@
 -- The definitions that the contracts of `ring` cite.
-pub mod Refusals
-pub mod Page
 pub mod Reading
 pub mod Writing
 pub mod Streams

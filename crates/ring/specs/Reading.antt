@@ -7,7 +7,7 @@ use Prim.Native.Nat.{ℕ, _+_, _-_, _^_, _<_}
 use lib.ListN.{length, set, replicate}
 use lib.Dec.{leb, ltb}
 use Rattle.messages.specs.Wire.{headerSize, maxPayload, sizeIn}
-use Rattle.ring.specs.Page.{advanced, octetsIn}
+use Rattle.page.specs.Page.{advanced, octetsIn}
 
 -- what has been read of a message: its header, the first octets of its payload, and how many octets in all
 pub record Message : Type 0 where

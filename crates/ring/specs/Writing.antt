@@ -5,7 +5,7 @@ use mathlib.Core.List.{List}
 use Prim.Native.Nat.{ℕ, _+_, _-_, _^_, _≤_, _<_, min}
 use lib.ListN.{length, take, drop, replicate}
 use Rattle.messages.specs.Requests.{maxAck}
-use Rattle.ring.specs.Page.{advanced}
+use Rattle.page.specs.Page.{advanced}
 
 -- a writing side: a message of `length` octets, of which `written` are on the page, and the count of octets written
 pub record Outgoing : Type 0 where

@@ -2,10 +2,10 @@
 ghost use mathlib.Core.Path.{_≡_};
 ghost use Prim.Native.Nat.{_+_, _≤_};
 ghost use lib.ListN.{length};
-ghost use Rattle.ring.specs.Page.{areaSize, put};
+ghost use Rattle.page.specs.Page.{areaSize, put};
 ghost use Rattle.ring.specs.Writing.{outgoingOf, fitting, sentOctets};
-use crate::areas::least;
-use crate::areas::write_area;
+use page::least;
+use page::write_area;
 
 // Writes as many octets of the message of `size` octets, of which `written` are there, as fit into `room` octets of the
 // area at `area`, from the count `prod` on, and answers how many these are.

@@ -12,7 +12,7 @@ use Rattle.toeplitz.specs.TwoWay.{lastType, inputSize, Verdict, lowest, twoWayO
 use Rattle.toeplitz.proofs.Mirror.{pick, mirror}
 use Rattle.toeplitz.proofs.TwoWays.{mirrorWindow, verdict-windows}
 use Rattle.toeplitz.proofs.Theorems.{two-way-is-verdict}
-use Rattle.ring.specs.Page.{offsets}
+use Rattle.page.specs.Page.{offsets}
 use Rattle.steering.specs.Steering.{queueOf}
 use Rattle.worked_lines.specs.Lines.{upFrom, countingKey, sparseKey, zeroKey, Each, none, _and_, lines}
 

@@ -7,7 +7,7 @@ use lib.ListN.{replicate, set}
 use Rattle.octets.specs.Outcome.{value}
 use Rattle.toeplitz.specs.Hash.{hashOutcome}
 use Rattle.toeplitz.specs.TwoWay.{Verdict, agree, differAt, twoWayOutcome}
-use Rattle.ring.specs.Page.{less, offsets}
+use Rattle.page.specs.Page.{less, offsets}
 use Rattle.steering.specs.Steering.{queueOf}
 
 -- n octets that count up from x

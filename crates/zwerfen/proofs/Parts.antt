@@ -3,10 +3,10 @@
 use mathlib.Core.List.{List, [], _∷_}
 use mathlib.Core.Bool.{Bool, true, false}
 use mir.Syntax.{w8, w64}
-use Rattle.backend.proofs.Interface as T
-use Rattle.backend.proofs.Interface.Laws as T′
-use Rattle.frontend.proofs.Guest as G
-use Rattle.frontend.proofs.Guest.Laws as G′
+use Rattle.interface.proofs.Interface as T
+use Rattle.interface.proofs.Interface.Laws as T′
+use Rattle.guest_steps.proofs.Guest as G
+use Rattle.guest_steps.proofs.Guest.Laws as G′
 use Rattle.lending.proofs.Structs.{Flat, array}
 
 abbrev pub interface : Flat

@@ -1,10 +1,10 @@
 // The guest's end of the ring, for a driver: the guest is in the driver's memory.
 ghost use mathlib.Core.Path.{_≡_};
 ghost use Rattle.guest_messages.specs.Writer.{getFlagsMessage, setFlagsMessage, setKeyMessage, setMappingMessage};
-ghost use Rattle.frontend.specs.Guest.{Good, stateOf, guestAtSetup};
-ghost use Rattle.frontend.specs.Calls.{startOf, eventOf};
+ghost use Rattle.guest_steps.specs.Guest.{Good, stateOf, guestAtSetup};
+ghost use Rattle.guest_steps.specs.Calls.{startOf, eventOf};
 ghost use Rattle.by_number.specs.Answers.{Leaves, statusOfTold, flagsOfTold};
-use frontend::Guest;
+use guest_steps::Guest;
 
 // Sets up the guest: no request, and both own counts 0.
 #[no_mangle]
@@ -27,7 +27,7 @@ pub extern "C" fn zwerfen_guest_start_get_flags(guest: &mut Guest, page: &mut [u
         (now (page .exit))
         × Good (stateOf (now (guest .exit))) ⌝ }
 {
-    by_number::start_get_flags(
+    on_parts::start_get_flags(
         &mut guest.numbers,
         &mut guest.request,
         &mut guest.header,
@@ -48,7 +48,7 @@ pub extern "C" fn zwerfen_guest_start_set_flags(
         (now (page .exit))
         × Good (stateOf (now (guest .exit))) ⌝ }
 {
-    by_number::start_set_flags(
+    on_parts::start_set_flags(
         &mut guest.numbers,
         &mut guest.request,
         &mut guest.header,
@@ -66,7 +66,7 @@ pub extern "C" fn zwerfen_guest_start_set_key(guest: &mut Guest, page: &mut [u8]
         (now (page .exit))
         × Good (stateOf (now (guest .exit))) ⌝ }
 {
-    by_number::start_set_key(
+    on_parts::start_set_key(
         &mut guest.numbers,
         &mut guest.request,
         &mut guest.header,
@@ -88,7 +88,7 @@ pub extern "C" fn zwerfen_guest_start_set_mapping(
         (now (page .exit))
         × Good (stateOf (now (guest .exit))) ⌝ }
 {
-    by_number::start_set_mapping(
+    on_parts::start_set_mapping(
         &mut guest.numbers,
         &mut guest.request,
         &mut guest.header,
@@ -112,7 +112,7 @@ pub extern "C" fn zwerfen_guest_event(
     ensures { λ _. ⌜ now (status .exit) ≡ statusOfTold (eventOf (stateOf (now (guest .entry))) (now (page .entry)) .answer) (now (status .entry)) ⌝ }
     ensures { λ _. ⌜ now (flags .exit) ≡ flagsOfTold (eventOf (stateOf (now (guest .entry))) (now (page .entry)) .answer) (now (flags .entry)) ⌝ }
 {
-    by_number::guest_event(
+    on_parts::guest_event(
         &mut guest.numbers,
         &mut guest.request,
         &mut guest.header,

@@ -4,7 +4,7 @@ use mathlib.Core.Path.{_≡_}
 use Prim.Native.Nat.{_≤_, _-_}
 use borrow.Author.Needs.{needs}
 use lib.ListN.{length}
-use Rattle.backend.specs.States.{Good, interfaceIn}
+use Rattle.interface.specs.States.{Good, interfaceIn}
 use Rattle.event_vectors.proofs.run.Statement.{statement}
 use Rattle.event_vectors.proofs.run.Tie as tie
 

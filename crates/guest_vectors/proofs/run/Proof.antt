@@ -5,8 +5,8 @@ use Prim.Native.Nat.{_≤_, _-_}
 use native.Mathlib.Omega.{arith}
 use borrow.Author.Needs.{needs}
 use lib.ListN.{length}
-use Rattle.backend.specs.States.{Good, interfaceIn}
-use Rattle.frontend.specs.Guest.{Good as GoodGuest, guestIn}
+use Rattle.interface.specs.States.{Good, interfaceIn}
+use Rattle.guest_steps.specs.Guest.{Good as GoodGuest, guestIn}
 use Rattle.guest_vectors.proofs.run.Statement.{statement}
 use Rattle.guest_vectors.proofs.run.Tie as tie
 

@@ -1,9 +1,8 @@
 -- `report::report_on` meets its contract: the lengths of the files, then the settings, then the capture.
 -- Assumes nothing.
 use mathlib.Core.Path.{sym, ap, _∙_}
-use Rattle.report.specs.Reports.{outcomeOf}
-use Rattle.report.specs.Inner.{settingsHeld}
-use Rattle.report.specs.declared.Answer.{Answer}
+use Rattle.settings_file.specs.Loading.{outcomeOf, settingsHeld}
+use Rattle.settings_file.specs.declared.Answer.{Answer}
 use Rattle.report.proofs.Orders.{long-settings, long-capture, settings-refused, settings-loaded}
 use borrow.Author.Needs.{needs}
 use Rattle.report.proofs.report_on.Statement.{statement}

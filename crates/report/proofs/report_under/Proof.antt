@@ -2,7 +2,7 @@
 -- Assumes nothing.
 use mathlib.Core.Path.{sym, ap, _∙_}
 use Rattle.capture.specs.Header.{headerOutcomeOf}
-use Rattle.report.specs.Inner.{settingsHeld}
+use Rattle.settings_file.specs.Loading.{settingsHeld}
 use Rattle.report.proofs.Orders.{header-refused, header-read}
 use borrow.Author.Needs.{needs}
 use Rattle.report.proofs.report_under.Statement.{statement}

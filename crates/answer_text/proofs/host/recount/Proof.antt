@@ -7,7 +7,7 @@ use native.Mathlib.Omega.{arith}
 use lib.ListN.{length, set}
 use borrow.Author.Needs.{needs}
 use Rattle.octets.proofs.Lengths.{by-length}
-use Rattle.backend.specs.States.{Good, interfaceIn}
+use Rattle.interface.specs.States.{Good, interfaceIn}
 use Rattle.answer_text.proofs.host.recount.Statement.{statement}
 use Rattle.answer_text.proofs.host.recount.Tie as tie
 

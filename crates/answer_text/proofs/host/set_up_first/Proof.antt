@@ -3,7 +3,7 @@
 use mathlib.Core.Path.{sym, subst}
 use native.Mathlib.Omega.{arith}
 use borrow.Author.Needs.{needs}
-use Rattle.backend.specs.States.{HostState, Good, setUpOutcome}
+use Rattle.interface.specs.States.{HostState, Good, setUpOutcome}
 use Rattle.backend.proofs.Goodness.{good-interface}
 use Rattle.answer_text.proofs.host.set_up_first.Statement.{statement}
 use Rattle.answer_text.proofs.host.set_up_first.Tie as tie

@@ -9,7 +9,7 @@ use borrow.Author.Tests.{leb-true}
 use Rattle.octets.specs.Outcome.{Outcome, placed, itself}
 use Rattle.octets.proofs.Truth.{both-true, by-test}
 use Rattle.messages.specs.Settings.{maxQueues}
-use Rattle.backend.specs.States.{HostState, Good, setUpOutcome}
+use Rattle.interface.specs.States.{HostState, Good, setUpOutcome}
 use Rattle.backend.proofs.Goodness.{good-interface}
 use Rattle.answer_text.proofs.host.set_up_host.Statement.{statement}
 use Rattle.answer_text.proofs.host.set_up_host.Tie as tie

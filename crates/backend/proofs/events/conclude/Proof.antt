@@ -3,8 +3,8 @@
 -- Assumes nothing.
 use mathlib.Core.Path.{_≡_, sym, subst, _∙_}
 use borrow.Author.Needs.{needs}
-use Rattle.backend.specs.States.{HostState, Good, interfaceIn}
-use Rattle.backend.specs.Events.{carriedOver}
+use Rattle.interface.specs.States.{HostState, Good, interfaceIn}
+use Rattle.interface.specs.Events.{carriedOver}
 use Rattle.backend.proofs.Steps.{concludes-whole, concludes-part}
 use Rattle.backend.proofs.events.conclude.Statement.{statement}
 use Rattle.backend.proofs.events.conclude.Tie as tie

@@ -6,10 +6,10 @@ use Prim.Native.Nat.{ℕ, _≤_, _<_}
 use native.Mathlib.Omega.{arith}
 use lib.ListN.{length}
 use borrow.Author.Needs.{needs}
-use Rattle.ring.specs.Page.{pageSize, areaSize}
-use Rattle.backend.specs.States.{HostState, interfaceIn}
-use Rattle.backend.specs.Events.{unread, unreadAcks}
-use Rattle.backend.specs.declared.EventAnswer.{EventAnswer}
+use Rattle.page.specs.Page.{pageSize, areaSize}
+use Rattle.interface.specs.States.{HostState, interfaceIn}
+use Rattle.interface.specs.Events.{unread, unreadAcks}
+use Rattle.interface.specs.declared.EventAnswer.{EventAnswer}
 use Rattle.backend.proofs.Steps.{refused-page, refused-requests, refused-responses, goes-on, event-good}
 use Rattle.backend.proofs.events.event.Statement.{statement}
 use Rattle.backend.proofs.events.event.Tie as tie

@@ -7,8 +7,8 @@ use Prim.Native.Nat.{ℕ, _^_, _<_}
 use borrow.Author.Needs.{needs}
 use borrow.Author.Tests.{lt-ltb, le-ltb}
 use Rattle.messages.specs.Settings.{Good as GoodSettings}
-use Rattle.backend.specs.States.{HostState, Good, interfaceIn}
-use Rattle.backend.specs.Events.{readIn, carriedOver}
+use Rattle.interface.specs.States.{HostState, Good, interfaceIn}
+use Rattle.interface.specs.Events.{readIn, carriedOver}
 use Rattle.backend.proofs.Goodness.{read-settings, read-counts, good-carried}
 use Rattle.backend.proofs.Steps.{proceeds-owing, proceeds-idle}
 use Rattle.backend.proofs.events.proceed.Statement.{statement}

@@ -5,7 +5,7 @@ use native.Mathlib.Omega.{arith}
 use borrow.Author.Needs.{needs}
 use borrow.Author.Tests.{le-leb, lt-leb}
 use Rattle.messages.specs.Settings.{maxQueues}
-use Rattle.backend.specs.States.{setUpOutcome}
+use Rattle.interface.specs.States.{setUpOutcome}
 use Rattle.backend.proofs.setup.set_up.Statement.{statement}
 use Rattle.backend.proofs.setup.set_up.Tie as tie
 

@@ -6,7 +6,7 @@ use borrow.Author.Needs.{needs}
 use Rattle.messages.proofs.Powers.{listed-parts}
 use Rattle.steering.specs.Steering.{Choice, choiceOf, queueIn}
 use Rattle.steering.specs.declared.Steered.{Steered}
-use Rattle.backend.specs.States.{settingsIn, steeredBy}
+use Rattle.interface.specs.States.{settingsIn, steeredBy}
 use Rattle.by_number.specs.Answers.{choiceNumber, typeTold, hashTold, Steers}
 use Rattle.by_number.proofs.host.steer.Statement.{statement}
 use Rattle.by_number.proofs.host.steer.Tie as tie

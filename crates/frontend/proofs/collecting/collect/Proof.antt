@@ -7,14 +7,14 @@ use Prim.Native.Nat.{ℕ, _+_}
 use lib.ListN.{getD}
 use borrow.Author.Needs.{needs}
 use Rattle.messages.specs.Wire.{typeIn}
-use Rattle.ring.specs.Page.{responsesAt}
+use Rattle.page.specs.Page.{responsesAt}
 use Rattle.ring.specs.Reading.{Incoming, incomingOf, receivedFrom}
-use Rattle.frontend.specs.Guest.{GuestState, guestIn, incoming}
-use Rattle.frontend.specs.Calls.{concluded, readOn}
-use Rattle.frontend.specs.Inner.{sightOf}
-use Rattle.frontend.specs.declared.GuestAnswer.the-variants.{AckedStatus, AckedFlags}
-use Rattle.frontend.specs.declared.collecting.Sight.{Sight}
-use Rattle.frontend.proofs.Stored.{stored-kept}
+use Rattle.guest_steps.specs.Guest.{GuestState, guestIn, incoming}
+use Rattle.guest_steps.specs.Calls.{concluded, readOn}
+use Rattle.guest_steps.specs.Inner.{sightOf}
+use Rattle.guest_steps.specs.declared.GuestAnswer.the-variants.{AckedStatus, AckedFlags}
+use Rattle.guest_steps.specs.declared.Sight.{Sight}
+use Rattle.guest_steps.proofs.Stored.{stored-kept}
 use Rattle.frontend.proofs.Collects.{reads-on, concludes-part, concludes-accepted, concludes-refused}
 use Rattle.frontend.proofs.collecting.collect.Statement.{statement}
 use Rattle.frontend.proofs.collecting.collect.Tie as tie
@@ -25,7 +25,7 @@ module _ (d : tie.After-look) where
   reading = d .before .before .before .before .before
 
   abbrev start : tie.Start
-  start = reading .before .before .before .before .before .before .before .before .before
+  start = reading .before .before .before .before .before .before .before .before
 
   abbrev header : List ℕ
   header = reading .receive .last .1 .1 .0
@@ -53,33 +53,35 @@ module _ (d : tie.After-look) where
 
 returns : tie.Need-returns
 returns c request type =
-    let keep = c .before .before .before .before in
-    let d = keep .before .before .before .before in
-    concludes-part (guest d request) _ (side d) _ _ (c .before .before .write-counts .ensures)
-    (stored-kept _ request (header d) (payload d) _ _ _ _ (keep .keep .ensures))
-    ∙ reads d request type _ (keep .before .before .enum-told .given .1)
+    let settle = c .before .before in
+    let d = settle .before .before .before .before .before in
+    let kept = settle .settle .ensures in
+    concludes-part (guest d request) _ (side d) _ _ (kept .1) (stored-kept _ request (header d) (payload d) _ _ _ _ (kept .0))
+    ∙ reads d request type _ (settle .before .before .before .enum-told .given .1)
 
 returns-2 : tie.Need-returns-2
 returns-2 c request type =
     let d = c .before .before .before .before in
-    concludes-refused (guest d request) _ (side d) _ (stored-kept _ request (header d) (payload d) _ _ _ _ (c .keep2 .ensures))
+    concludes-refused (guest d request) _ (side d) _ (stored-kept _ request (header d) (payload d) _ _ _ _ (c .keep .ensures))
     ∙ reads d request type _ (c .before .before .enum-told2 .given .1)
 
 returns-3 : tie.Need-returns-3
 returns-3 c request type =
-    let keep = c .before .before .before .before in
-    let d = keep .before .before .before .before .before in
-    concludes-accepted (guest d request) _ (side d) _ _ (c .before .before .write-counts2 .ensures) _ (AckedStatus _) refl
-    (stored-kept _ request (header d) (payload d) _ _ _ _ (keep .keep3 .ensures))
-    ∙ reads d request type _ (keep .before .before .before .sight .given .1)
+    let settle = c .before .before in
+    let d = settle .before .before .before .before .before .before in
+    let kept = settle .settle2 .ensures in
+    concludes-accepted (guest d request) _ (side d) _ _ (kept .1) _ (AckedStatus _) refl
+    (stored-kept _ request (header d) (payload d) _ _ _ _ (kept .0))
+    ∙ reads d request type _ (settle .before .before .before .before .sight .given .1)
 
 returns-4 : tie.Need-returns-4
 returns-4 c request type =
-    let keep = c .before .before .before .before in
-    let d = keep .before .before .before .before .before in
-    concludes-accepted (guest d request) _ (side d) _ _ (c .before .before .write-counts3 .ensures) _ (AckedFlags _) refl
-    (stored-kept _ request (header d) (payload d) _ _ _ _ (keep .keep4 .ensures))
-    ∙ reads d request type _ (keep .before .before .before .sight2 .given .1)
+    let settle = c .before .before in
+    let d = settle .before .before .before .before .before .before in
+    let kept = settle .settle3 .ensures in
+    concludes-accepted (guest d request) _ (side d) _ _ (kept .1) _ (AckedFlags _) refl
+    (stored-kept _ request (header d) (payload d) _ _ _ _ (kept .0))
+    ∙ reads d request type _ (settle .before .before .before .before .sight2 .given .1)
 
 pub collect-spec : {M : Type 1} → statement M
 collect-spec =
@@ -89,8 +91,6 @@ collect-spec =
     (λ c. search needs)
     (λ c. search needs)
     (λ c. search needs)
-    (λ c. search needs)
-    (λ c. search needs)
     (λ c κs. search needs)
     (λ c. search needs)
     (λ c. search needs)
@@ -99,14 +99,11 @@ collect-spec =
     (λ c κs. search needs)
     (λ c. search needs)
     (λ c κs. search needs)
-    (λ c κs. search needs)
     (λ c. search needs)
     (λ c κs. search needs)
     (λ c. search needs)
     (λ c κs. search needs)
-    (λ c κs. search needs)
     (λ c. search needs)
-    (λ c κs. search needs)
     (λ c κs. search needs)
     (λ c. search needs)
     returns

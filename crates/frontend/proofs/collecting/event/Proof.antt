@@ -8,12 +8,12 @@ use native.Mathlib.Omega.{arith}
 use borrow.Author.Needs.{needs}
 use borrow.Author.Tests.{lt-ltb, le-ltb}
 use Rattle.octets.specs.Outcome.{value}
-use Rattle.frontend.specs.Guest.{GuestState, Good, guestIn}
-use Rattle.frontend.specs.Calls.{Found, found, eventOf, left}
-use Rattle.frontend.specs.Inner.{findingOf}
-use Rattle.frontend.specs.declared.GuestAnswer.{GuestAnswer}
-use Rattle.frontend.specs.declared.GuestAnswer.the-variants.{Pending, Refused}
-use Rattle.frontend.specs.declared.calls.Finding.{Finding}
+use Rattle.guest_steps.specs.Guest.{GuestState, Good, guestIn}
+use Rattle.guest_steps.specs.Calls.{Found, found, eventOf, left}
+use Rattle.guest_steps.specs.Inner.{findingOf}
+use Rattle.guest_steps.specs.declared.GuestAnswer.{GuestAnswer}
+use Rattle.guest_steps.specs.declared.GuestAnswer.the-variants.{Pending, Refused}
+use Rattle.guest_steps.specs.declared.Finding.{Finding}
 use Rattle.frontend.proofs.Ways.{Within, found-within}
 use Rattle.frontend.proofs.Collects.{event-refused, event-idle, event-owing, event-reading, event-good}
 use Rattle.frontend.proofs.collecting.event.Statement.{statement}
@@ -30,10 +30,10 @@ module _ (s : tie.Start) where
 -- once it has been looked at
 module _ (d : tie.After-find) where
   abbrev start : tie.Start
-  start = d .before .before .before .before .before .before
+  start = d .before .before .before .before
 
   finds : (a : Finding) → d .find .result ≡ a → findingOf a ≡ found (lent start) (page start)
-  finds a e = ap findingOf (sym e) ∙ d .find .ensures (lent start) refl refl refl
+  finds a e = let x = start .args in ap findingOf (sym e) ∙ d .find .ensures (x .request .now) (x .header .now) (x .payload .now)
 
   -- what the event gives is good
   concludes : (h : GuestState) (octets : List ℕ) (r : GuestAnswer) → left r h octets ≡ eventOf (lent start) (page start)
@@ -59,13 +59,14 @@ module _ (d : tie.After-finding2) where
 
 write-counts-requires : tie.Need-write-counts-requires
 write-counts-requires c κs =
-    let b = bounds (c .before .before .before .before .before .before) in
-    (omega arith, omega arith)
+    let d = c .before .before .before .before .before in
+    let good = began d .pre in
+    (bounds d .size, good .request .count, good .ack .count)
 
 returns : tie.Need-returns
 returns c =
     let counting = c .before .before in
-    let test = counting .before .before .before .before in
+    let test = counting .before .before .before in
     let d = test .before .before .before in
     let s = began d in
     concludes (looked d) (lent s) _ Pending
@@ -122,16 +123,7 @@ pub event-spec : {M : Type 1} → statement M
 event-spec =
     tie.close
     (tie.spec
-    (λ c. search needs)
-    (λ c. search needs)
-    (λ c. search needs)
-    (λ c. search needs)
-    (λ c. search needs)
     (λ c κs. search needs)
-    (λ c. search needs)
-    (λ c. search needs)
-    (λ c. search needs)
-    (λ c. search needs)
     (λ c. search needs)
     (λ c. search needs)
     (λ c. search needs)

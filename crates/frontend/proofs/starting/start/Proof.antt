@@ -11,14 +11,14 @@ use Rattle.guest_messages.specs.Refusals.{bufferTooShort}
 use Rattle.guest_messages.specs.declared.Written.{Written}
 use Rattle.guest_messages.specs.declared.Written.the-variants.{Length}
 use Rattle.guest_messages.specs.Writer.{writtenOutcomeOf}
-use Rattle.frontend.specs.Guest.{GuestState, Good, maxRequest, guestIn, refusalNumber}
-use Rattle.frontend.specs.Calls.{found, messageOf, readied, startOf, left}
-use Rattle.frontend.specs.Inner.{readinessOf}
-use Rattle.frontend.specs.declared.GuestAnswer.{GuestAnswer}
-use Rattle.frontend.specs.declared.GuestAnswer.the-variants.{Refused}
-use Rattle.frontend.specs.declared.Refusal.{Refusal}
-use Rattle.frontend.specs.declared.Refusal.the-variants.{KeyRefused, ValueRefused}
-use Rattle.frontend.specs.declared.starting.Readiness.{Readiness}
+use Rattle.guest_steps.specs.Guest.{GuestState, Good, maxRequest, guestIn, refusalNumber}
+use Rattle.guest_steps.specs.Calls.{found, messageOf, readied, startOf, left}
+use Rattle.guest_steps.specs.Inner.{readinessOf}
+use Rattle.guest_steps.specs.declared.GuestAnswer.{GuestAnswer}
+use Rattle.guest_steps.specs.declared.GuestAnswer.the-variants.{Refused}
+use Rattle.guest_steps.specs.declared.Refusal.{Refusal}
+use Rattle.guest_steps.specs.declared.Refusal.the-variants.{KeyRefused, ValueRefused}
+use Rattle.guest_steps.specs.declared.Readiness.{Readiness}
 use Rattle.frontend.proofs.Goodness.{asked-fits, starts-good}
 use Rattle.frontend.proofs.Starts.{Wrote, wrote, refuses, has-place, asks, room-found, starts-stopped, starts-refused, starts-with}
 use Rattle.frontend.proofs.starting.start.Statement.{statement}
@@ -45,10 +45,10 @@ module _ (s : tie.Start) where
 -- once it is known what the start finds
 module _ (d : tie.After-ready) where
   abbrev start : tie.Start
-  start = d .before .before .before .before .before .before .before .before
+  start = d .before .before .before .before .before .before
 
   finds : (a : Readiness) → d .ready .result ≡ a → readinessOf a ≡ readied (found (lent start) (page start)) (lent start)
-  finds a e = ap readinessOf (sym e) ∙ d .ready .ensures (lent start) refl refl refl
+  finds a e = let x = start .args in ap readinessOf (sym e) ∙ d .ready .ensures (x .request .now) (x .header .now) (x .payload .now)
 
 -- once the writer has answered, where there is room
 module _ (d : tie.After-write-request) where
@@ -136,11 +136,6 @@ pub start-spec : {M : Type 1} → statement M
 start-spec =
     tie.close
     (tie.spec
-    (λ c. search needs)
-    (λ c. search needs)
-    (λ c. search needs)
-    (λ c. search needs)
-    (λ c. search needs)
     (λ c κs. search needs)
     (λ c. search needs)
     (λ c. search needs)

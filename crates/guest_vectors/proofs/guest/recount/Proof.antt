@@ -7,7 +7,7 @@ use native.Mathlib.Omega.{arith}
 use lib.ListN.{length, set}
 use borrow.Author.Needs.{needs}
 use Rattle.octets.proofs.Lengths.{by-length}
-use Rattle.frontend.specs.Guest.{Good, guestIn}
+use Rattle.guest_steps.specs.Guest.{Good, guestIn}
 use Rattle.guest_vectors.proofs.guest.recount.Statement.{statement}
 use Rattle.guest_vectors.proofs.guest.recount.Tie as tie
 

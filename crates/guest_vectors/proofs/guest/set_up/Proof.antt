@@ -2,7 +2,7 @@
 -- Assumes nothing.
 use mathlib.Core.Path.{sym, subst}
 use borrow.Author.Needs.{needs}
-use Rattle.frontend.specs.Guest.{GuestState, Good}
+use Rattle.guest_steps.specs.Guest.{GuestState, Good}
 use Rattle.frontend.proofs.Goodness.{good-at-setup}
 use Rattle.guest_vectors.proofs.guest.set_up.Statement.{statement}
 use Rattle.guest_vectors.proofs.guest.set_up.Tie as tie

@@ -18,10 +18,12 @@ use Rattle.capture.specs.Packets.{ipPart}
 use Rattle.capture.specs.declared.Link.{Link}
 use Rattle.capture.proofs.Found.{IsRecord, found-record, found-end, found-bad}
 use Rattle.capture.proofs.Theorems.{records-fill}
+use Rattle.settings_file.specs.Loading.{settingsHeld}
 use Rattle.report.specs.Counting.{choiceFor}
-use Rattle.report.specs.Inner.{settingsHeld, HasRoom}
+use Rattle.report.specs.Inner.{HasRoom}
 use Rattle.report.proofs.Orders.{bad-records, good-records}
-use Rattle.report.proofs.Counters.{Counting, counting-none, counting-room, counting-next, counting-fits, counting-bad, counting-all, counting-done}
+use Rattle.report.proofs.Counters.{Counting, counting-none, counting-room, counting-next, counting-fits}
+use Rattle.report.proofs.Counters.{counting-bad, counting-all, counting-done}
 use Rattle.report.proofs.count.count_records.Statement.{statement}
 use Rattle.report.proofs.count.count_records.Tie as tie
 

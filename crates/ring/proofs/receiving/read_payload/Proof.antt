@@ -6,7 +6,7 @@ use native.Mathlib.Omega.{arith}
 use borrow.Author.Needs.{needs}
 use borrow.Author.Tests.{lt-ltb, le-ltb}
 use Rattle.messages.specs.Wire.{headerSize}
-use Rattle.ring.specs.Page.{octetsIn}
+use Rattle.page.specs.Page.{octetsIn}
 use Rattle.ring.specs.Inner.{payloadMoved}
 use Rattle.ring.proofs.Steps.{none-set, sets-out, part-read}
 use Rattle.ring.proofs.receiving.read_payload.Statement.{statement}

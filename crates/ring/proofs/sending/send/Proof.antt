@@ -5,7 +5,7 @@ use Prim.Native.Nat.{ℕ, _+_, _-_}
 use native.Mathlib.Omega.{arith}
 use lib.ListN.{take, drop}
 use borrow.Author.Needs.{needs}
-use Rattle.ring.specs.Page.{put}
+use Rattle.page.specs.Page.{put}
 use Rattle.ring.proofs.sending.send.Statement.{statement}
 use Rattle.ring.proofs.sending.send.Tie as tie
 

@@ -1,12 +1,12 @@
--- `zwerfen::zwerfen_set_up` meets its contract: the interface is lent in parts to `by_number::set_up` (`Exports.antt` of the
+-- `zwerfen::zwerfen_set_up` meets its contract: the interface is lent in parts to `on_parts::set_up` (`Exports.antt` of the
 -- crate `lending`). All that the proof knows of that function is that it meets its contract.
 -- Assumes nothing.
 use mathlib.Core.Path.{refl}
 use mir.Syntax.{tyInt, w32}
 use contract.Running.{givenOf}
-use Rattle.by_number.proofs.set_up as on-parts
-use Rattle.by_number.proofs.set_up.Symbol as on-parts-def
-use Rattle.by_number.proofs.set_up.Met as on-parts-thm
+use Rattle.on_parts.proofs.set_up as on-parts
+use Rattle.on_parts.proofs.set_up.Symbol as on-parts-def
+use Rattle.on_parts.proofs.set_up.Met as on-parts-thm
 use Rattle.lending.proofs.Spelt.{a-number}
 use Rattle.lending.proofs.Structs.{rowBy, partsOf, valuesOf, opens}
 use Rattle.lending.proofs.Exports.{tail, passing, exported, concluded}
@@ -20,7 +20,7 @@ pub zwerfen-set-up-spec : {M : Type 1} → stated.statement M
 unfolding code.routine
 zwerfen-set-up-spec 𝓤 H 𝓜 𝓖 𝓡 =
     concluded 𝓤 H 𝓜 𝓖 𝓡 f.signature on-parts.signature (f.spec 𝓤 H) (on-parts.spec 𝓤 H) code.env #f code.function (code.unfolded 𝓤 H 𝓜 𝓡)
-    on-parts-def.name on-parts-def.routine code.calls-by-number·set-up (on-parts-thm.met 𝓤 H 𝓜 𝓖 𝓡) (λ 𝓣 known.
+    on-parts-def.name on-parts-def.routine code.calls-on-parts·set-up (on-parts-thm.met 𝓤 H 𝓜 𝓖 𝓡) (λ 𝓣 known.
     exported (rowBy interface) (partsOf interface) 0 (tail (f.signature .params)) (f.ended .kept .1) (f.signature .result)
     𝓤 H (𝓖 .A) (givenOf 𝓤 H 𝓜 𝓖) 𝓣 code.function on-parts-def.name
     (λ κs. (a-number w32, tt))

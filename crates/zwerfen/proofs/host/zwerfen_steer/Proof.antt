@@ -7,7 +7,7 @@ use contract.Running.{givenOf}
 use denote.Builtin.{u8, u32}
 use denote.Triple.Entry.{onEntry}
 use Rattle.messages.specs.Settings.{Good as GoodSettings}
-use Rattle.backend.specs.States.{Good, stateOf}
+use Rattle.interface.specs.States.{Good, stateOf}
 use Rattle.by_number.proofs.steer as on-parts
 use Rattle.by_number.proofs.steer.Symbol as on-parts-def
 use Rattle.by_number.proofs.steer.Met as on-parts-thm

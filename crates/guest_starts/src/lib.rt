@@ -1,0 +1,73 @@
+// The stages of a start: what it finds, the request put into its place, and the request begun.
+ghost use mathlib.Core.Path.{_≡_};
+ghost use Prim.Native.Nat.{_^_, _≤_, _<_};
+ghost use lib.ListN.{length, getD};
+ghost use Rattle.page.specs.Page.{pageSize, areaSize};
+ghost use Rattle.guest_messages.specs.Writer.{after, written};
+ghost use Rattle.guest_steps.specs.Guest.{maxRequest};
+ghost use Rattle.guest_steps.specs.Calls.{messageOf};
+ghost use Rattle.guest_steps.specs.Inner.{Readies, Begins};
+use guest_messages::Written;
+use guest_steps::Ask;
+use guest_steps::Finding;
+use guest_steps::GuestAnswer;
+use guest_steps::IDLE;
+use guest_steps::LENGTH;
+use guest_steps::MAX_REQUEST;
+use guest_steps::NUMBERS;
+use guest_steps::OUTSTANDING;
+use guest_steps::PHASE;
+use guest_steps::Readiness;
+use guest_steps::Refusal;
+use guest_steps::WRITTEN;
+use guest_steps::find;
+use guest_steps::write_on;
+
+// What a start finds: beside what every call finds, no request may be outstanding.
+pub fn ready(page: &[u8], numbers: &[u64; NUMBERS]) -> Readiness
+    requires { ⌜ (getD (now numbers) 3 0 < 2 ^ 32) × (getD (now numbers) 5 0 < 2 ^ 32) ⌝ }
+    ensures { λ r. ⌜ Readies (now (numbers .entry)) (now (page .entry)) r ⌝ }
+{
+    let finding = find(page, numbers);
+    match finding {
+        Finding::Hindered(refusal) => Readiness::Stopped(refusal),
+        Finding::Counts(room, _) => {
+            if numbers[PHASE] == IDLE {
+                Readiness::Room(room)
+            } else {
+                Readiness::Stopped(Refusal::Outstanding)
+            }
+        }
+    }
+}
+
+// Puts the message of what is asked for into its place.
+pub fn write_request(ask: Ask, key: &[u8], entries: &[u64], place: &mut [u8]) -> Written
+    ensures { λ r. ⌜ after r (now (place .exit)) ≡ written (messageOf ask (now (key .entry)) (now (entries .entry))) (now (place .entry)) ⌝ }
+{
+    match ask {
+        Ask::GetFlags => guest_messages::write_get_flags(place),
+        Ask::SetFlags(flags) => guest_messages::write_set_flags(place, flags),
+        Ask::SetKey => guest_messages::write_set_key(place, key),
+        Ask::SetMapping => guest_messages::write_set_mapping(place, entries),
+    }
+}
+
+// Makes the request of n octets, which is in its place, the outstanding one, and writes as much of it as fits.
+pub fn begin(
+    n: usize,
+    numbers: &mut [u64; NUMBERS],
+    request: &[u8; MAX_REQUEST],
+    room: u32,
+    page: &mut [u8],
+) -> GuestAnswer
+    requires { ⌜ (length (now page) ≡ pageSize) × (room ≤ areaSize) × (n ≤ maxRequest) × (length (now request) ≡ maxRequest) ⌝ }
+    requires { ⌜ (getD (now numbers) 3 0 < 2 ^ 32) × (getD (now numbers) 5 0 < 2 ^ 32) ⌝ }
+    ensures { λ r. ⌜ Begins n (now (numbers .entry)) (now (request .entry)) (now (page .entry)) room r (now (numbers .exit)) (now (page .exit)) ⌝ }
+{
+    let held = &mut numbers[..];
+    held[PHASE] = OUTSTANDING;
+    held[LENGTH] = n as u64;
+    held[WRITTEN] = 0;
+    write_on(numbers, request, room, page)
+}

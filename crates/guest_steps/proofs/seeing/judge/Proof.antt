@@ -1,0 +1,115 @@
+-- `guest_steps::seeing::judge` meets its contract: what the reader is handed is the header with the octets of the payload
+-- behind it.
+-- Assumes nothing.
+use mathlib.Core.Path.{_≡_, refl, sym, ap, ap₂, _∙_}
+use mathlib.Core.List.{List, _++_}
+use Prim.Native.Nat.{ℕ, _+_, _-_, _≤_}
+use native.Mathlib.Omega.{arith}
+use lib.ListN.{length, take, replicate, length-append}
+use borrow.Rule.Slice.PartMut.{putMid}
+use borrow.Author.Needs.{needs}
+use Rattle.messages.specs.Wire.{headerSize}
+use Rattle.guest_steps.specs.Guest.{maxAckPayload}
+use Rattle.guest_messages.specs.Reader.{readAck, ackOutcomeOf}
+use Rattle.guest_steps.specs.Calls.{judged}
+use Rattle.guest_messages.specs.declared.AckAnswer.{AckAnswer}
+use Rattle.guest_steps.proofs.Sights.{put-together, put-part}
+use Rattle.guest_steps.proofs.seeing.judge.Statement.{statement}
+use Rattle.guest_steps.proofs.seeing.judge.Tie as tie
+
+-- what stands behind the header at first
+abbrev zeros : List ℕ
+zeros = replicate maxAckPayload 0
+
+-- once the header has been copied
+module _ (d : tie.After-copy) where
+  abbrev start : tie.Start
+  start = d .before .before .before
+
+  abbrev header : List ℕ
+  header = d .copy .last .0
+
+  header-copied : header ≡ start .args .header .now
+  header-copied = d .copy .ensures
+
+  header-long : length header ≡ headerSize
+  header-long = rw header-copied (d .before .copy-arg .given .0)
+
+part-message-end-2 : tie.Need-part-message-end-2
+part-message-end-2 c =
+    let d = c .before in
+    let within : headerSize + maxAckPayload ≤ length (header d ++ zeros) = omega (arith, header-long d, length-append (header d) zeros) in
+    within
+
+-- once the payload has been copied
+module _ (d : tie.After-copy2) where
+  abbrev first : tie.After-copy
+  first = d .before .before .before .before
+
+  abbrev payload : List ℕ
+  payload = d .copy2 .last .0
+
+  payload-copied : payload ≡ start first .args .payload .now
+  payload-copied = d .copy2 .ensures
+
+  payload-long : length payload ≡ maxAckPayload
+  payload-long = rw payload-copied (d .before .copy-arg2 .given .0)
+
+part-read-ack-end : tie.Need-part-read-ack-end
+part-read-ack-end c =
+    let d = c .before .before in
+    let h = header (first d) in
+    let s = start (first d) in
+    let within : headerSize + s .args .size ≤ length (putMid headerSize maxAckPayload (h ++ zeros) (payload d)) =
+    rw (put-together h (payload d) zeros (header-long (first d)) refl, length-append) (omega (arith, header-long (first d), payload-long d, s .pre)) in
+    within
+
+-- once the reader has answered a
+module _ (d : tie.After-read-ack) (a : AckAnswer) (e : d .read-ack .result ≡ a) where
+  abbrev copied : tie.After-copy2
+  copied = d .before .before .before .before
+
+  abbrev from : tie.Start
+  from = start (first copied)
+
+  -- it was handed the header with the octets of the payload
+  judges : judged (ackOutcomeOf a) ≡ judged (readAck (from .args .kind) (from .args .header .now ++ take (from .args .size) (from .args .payload .now)))
+  judges =
+      let h = first copied in
+      let n = from .args .size in
+      let handed = put-part (header h) (payload copied) zeros (header-long h) refl (headerSize + n - 0) n (omega arith) in
+      let given = handed ∙ ap₂ (λ (x y : List ℕ). x ++ take n y) (header-copied h) (payload-copied copied) in
+      ap judged (ap ackOutcomeOf (sym e) ∙ d .read-ack .ensures ∙ ap (readAck (from .args .kind)) given)
+
+returns : tie.Need-returns
+returns c = judges (c .before .before .before) _ (c .before .answer .given .1)
+
+returns-2 : tie.Need-returns-2
+returns-2 c = judges (c .before .before .before) _ (c .before .answer2 .given .1)
+
+returns-3 : tie.Need-returns-3
+returns-3 c = judges (c .before .before) _ (c .enum-told .given .1)
+
+pub judge-spec : {M : Type 1} → statement M
+judge-spec =
+    tie.close
+    (tie.spec
+    (λ c. search needs)
+    (λ c. search needs)
+    (λ c. search needs)
+    (λ c κs. search needs)
+    (λ c. search needs)
+    (λ c. search needs)
+    part-message-end-2
+    (λ c κs. search needs)
+    (λ c. search needs)
+    (λ c. search needs)
+    (λ c. search needs)
+    part-read-ack-end
+    (λ c κs. search needs)
+    (λ c. search needs)
+    (λ c. search needs)
+    (λ c. search needs)
+    returns
+    returns-2
+    returns-3)

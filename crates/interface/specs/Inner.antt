@@ -1,0 +1,23 @@
+-- What the inner functions promise: no part of the public promise. Each speaks of the parts that it is lent, and holds
+-- whatever the others are.
+-- Assumes nothing.
+use mathlib.Core.Path.{_≡_}
+use mathlib.Core.List.{List}
+use Prim.Native.Nat.{ℕ}
+use Rattle.interface.specs.States.{interfaceIn}
+use Rattle.interface.specs.Events.{responded, readIn, left}
+use Rattle.interface.specs.declared.EventAnswer.{EventAnswer}
+
+-- as many octets of the ack written as fit into `room` octets, and both counts behind them
+abbrev pub Responds : List ℕ → List ℕ → List ℕ → ℕ → EventAnswer → List ℕ → List ℕ → Type 0
+Responds numbers ack page room r numbers′ page′ =
+    (header payload key entries : List ℕ)
+    → left r (interfaceIn numbers′ header payload ack key entries) page′
+    ≡ responded (interfaceIn numbers header payload ack key entries) page room
+
+-- octets of the present request read, of which n stand unread
+abbrev pub Reads : List ℕ → List ℕ → List ℕ → List ℕ → ℕ → List ℕ → List ℕ → List ℕ → Type 0
+Reads numbers header payload page n numbers′ header′ payload′ =
+    (ack key entries : List ℕ)
+    → interfaceIn numbers′ header′ payload′ ack key entries
+    ≡ readIn (interfaceIn numbers header payload ack key entries) page n

@@ -1,0 +1,65 @@
+// One interface of the host: how its state is stored, and the stages of an event of its control ring.
+mod stages;
+
+use messages::HEADER;
+use messages::MAX_ACK;
+use messages::MAX_ENTRIES;
+use messages::MAX_PAYLOAD;
+pub use stages::carry_over;
+pub use stages::read_request;
+pub use stages::respond;
+use toeplitz::KEY_LENGTH;
+
+// The numbers of an interface stand in one array, so that a new one moves no signature. Their places: the queues in
+// operation, the flags and the number of mapping entries; the octets taken of the present request, and the own req_cons;
+// the octets of the ack, how many of them are written, and the own rsp_prod.
+pub const QUEUES: usize = 0;
+
+pub const FLAGS: usize = 1;
+
+pub const ENTRY_COUNT: usize = 2;
+
+pub const TAKEN: usize = 3;
+
+pub const OWN_REQ_CONS: usize = 4;
+
+pub const ACK_LENGTH: usize = 5;
+
+pub const ACK_WRITTEN: usize = 6;
+
+pub const OWN_RSP_PROD: usize = 7;
+
+pub const NUMBERS: usize = 8;
+
+// One interface: its numbers; the present request, of whose payload the first 1,024 octets are kept; the ack to the last one;
+// the key, and the queue of each mapping entry, with zeros behind the table. There is no padding.
+#[repr(C)]
+pub struct Interface {
+    pub numbers: [u64; NUMBERS],
+    pub header: [u8; HEADER],
+    pub payload: [u8; MAX_PAYLOAD],
+    pub ack: [u8; MAX_ACK],
+    pub key: [u8; KEY_LENGTH],
+    pub entries: [u8; MAX_ENTRIES],
+}
+
+pub enum SetUpAnswer {
+    Made,
+    // 0 queues, or more than 64.
+    Queues,
+}
+
+pub enum EventAnswer {
+    // No whole message yet.
+    Waiting,
+    // The ack is wholly written.
+    Written,
+    // Octets of the ack are still owed.
+    Owed,
+    // The page is not 4,096 octets.
+    PageLength,
+    // req_prod is more than 1,024 ahead of the own req_cons.
+    RequestCount,
+    // The own rsp_prod is more than 1,024 ahead of rsp_cons.
+    ResponseCount,
+}

@@ -1,0 +1,28 @@
+-- `on_parts::driver::guest_event_on_parts` meets its contract: the event is told by its number, and what its ack says.
+-- Assumes nothing.
+use mathlib.Core.Path.{ap, _∙_}
+use borrow.Author.Needs.{needs}
+use Rattle.guest_steps.specs.Calls.{After}
+use Rattle.guest_steps.specs.declared.GuestAnswer.{GuestAnswer}
+use Rattle.octets.specs.Outcome.{done}
+use Rattle.by_number.specs.Answers.{statusOfTold, flagsOfTold}
+use Rattle.by_number.proofs.Driving.{tells}
+use Rattle.on_parts.proofs.guest.guest_event.Statement.{statement}
+use Rattle.on_parts.proofs.guest.guest_event.Tie as tie
+
+returns : tie.Need-returns
+returns c =
+    let event = c .before .before .before .before .before in
+    let a = event .before .before .before .before .before .before .before .args in
+    let done = event .event .ensures in
+    let told = c .tell-answer .ensures in
+    let answer : GuestAnswer = event .event .result in (
+      (tells _ answer _ _ _ (done .0) (told .0), done .1),
+      (
+        told .1 .0 ∙ ap (λ (x : After). statusOfTold (x .answer) (a .status .now)) (done .0),
+        told .1 .1 ∙ ap (λ (x : After). flagsOfTold (x .answer) (a .flags .now)) (done .0),
+      ),
+    )
+
+pub guest-event-spec : {M : Type 1} → statement M
+guest-event-spec = tie.close (tie.spec (λ c κs. search needs) (λ c κs. search needs) (λ c. search needs) returns)

@@ -1,0 +1,29 @@
+// The shared page of a control ring: its counts, and its two areas. One end writes an area and the other end reads it; the
+// functions are for both, with the area and the places of the counts as parameters.
+mod areas;
+mod counts;
+
+pub use areas::least;
+pub use areas::read_area;
+pub use areas::write_area;
+pub use counts::unread_by_other;
+pub use counts::unread_here;
+pub use counts::write_counts;
+
+// Octets of the page, and of each area.
+pub const PAGE: usize = 4096;
+
+pub const AREA: u32 = 1024;
+
+// Where the counts and the areas stand.
+pub const REQ_CONS: usize = 0;
+
+pub const REQ_PROD: usize = 4;
+
+pub const RSP_CONS: usize = 8;
+
+pub const RSP_PROD: usize = 12;
+
+pub const REQUESTS: usize = 16;
+
+pub const RESPONSES: usize = 1040;

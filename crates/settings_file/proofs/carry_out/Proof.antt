@@ -1,0 +1,49 @@
+-- `settings_file::carry_out` meets its contract: the library carries the message out on copies, from which the settings left
+-- are put together, and the status stands in the ack behind its header.
+-- Assumes nothing.
+use mathlib.Core.Path.{_≡_, ap, _∙_}
+use mathlib.Core.List.{List}
+use Prim.Native.Nat.{ℕ}
+use native.Mathlib.Omega.{arith}
+use lib.ListN.{length}
+use borrow.Author.Needs.{needs}
+use Rattle.octets.specs.Numbers.{numberAt}
+use Rattle.messages.specs.Wire.{headerSize, fieldSize}
+use Rattle.messages.specs.Requests.{Carried, maxAck}
+use Rattle.messages.proofs.Theorems.{ack-fits, status-in-place}
+use Rattle.settings_file.specs.Loading.{settingsHeld}
+use Rattle.settings_file.proofs.carry_out.Statement.{statement}
+use Rattle.settings_file.proofs.carry_out.Tie as tie
+
+-- where the message was carried out
+module _ (d : tie.After-carry-out) where
+  abbrev start-of : tie.Start
+  start-of = d .before .before .before .before .before .before
+
+  abbrev ack-of : List ℕ
+  ack-of = d .carry-out .last .1 .1 .1 .1 .1 .1 .1 .1 .0
+
+  size : length ack-of ≡ maxAck
+  size =
+      let a = start-of .args in
+      ap (λ (x : Carried). length (x .ack .octets)) (d .carry-out .ensures)
+      ∙ ack-fits (settingsHeld (a .settings)) (a .kind) (a .size) (a .payload .now) .0
+
+slice-aggregate-read-u64 : tie.Need-slice-aggregate-read-u64
+slice-aggregate-read-u64 c = let long = size (c .before) in search needs
+
+read-u64-requires : tie.Need-read-u64-requires
+read-u64-requires c κs = omega (arith, size (c .before))
+
+returns : tie.Need-returns
+returns c =
+    let d = c .before .before in
+    let a = start-of d .args in
+    record {
+      acked = c .read-u64 .ensures ∙ ap (λ (x : Carried). numberAt fieldSize (x .ack .octets) headerSize) (d .carry-out .ensures)
+          ∙ status-in-place (settingsHeld (a .settings)) (a .kind) (a .size) (a .payload .now);
+      leaves = ap (λ (x : Carried). x .settings) (d .carry-out .ensures);
+    }
+
+pub carry-out-spec : {M : Type 1} → statement M
+carry-out-spec = tie.close (tie.spec (λ c κs. search needs) slice-aggregate-read-u64 read-u64-requires returns)

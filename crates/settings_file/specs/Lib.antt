@@ -1,0 +1,3 @@
+-- The definitions that the contracts of `settings_file` cite.
+pub mod Loading
+pub mod Inner
