@@ -29,6 +29,7 @@ use guest_steps::look;
 use guest_steps::settle;
 use guest_steps::write_counts;
 use guest_steps::write_on;
+use guest_steps::written_answer;
 use messages::HEADER;
 use page::RESPONSES;
 
@@ -54,7 +55,7 @@ pub fn event<'a>(
                 return GuestAnswer::Pending;
             }
             if numbers[WRITTEN] < numbers[LENGTH] {
-                return write_on(numbers, request, room, page);
+                return written_answer(write_on(numbers, request, room, page));
             }
             let kind = octets::read_u32(request, 0);
             collect(page, kind, unread, numbers, header, payload)

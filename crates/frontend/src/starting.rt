@@ -14,6 +14,7 @@ use guest_steps::MAX_REQUEST;
 use guest_steps::NUMBERS;
 use guest_steps::Readiness;
 use guest_steps::Refusal;
+use guest_steps::written_answer;
 use messages::HEADER;
 
 // Starts a request of the guest whose parts are lent, on its page. Key and entries are looked at only where they are asked for.
@@ -39,7 +40,7 @@ pub fn start<'a>(
         Readiness::Room(room) => {
             let answer = write_request(ask, key, entries, &mut request[..]);
             match answer {
-                Written::Length(n) => begin(n, numbers, request, room, page),
+                Written::Length(n) => written_answer(begin(n, numbers, request, room, page)),
                 Written::KeyLength => GuestAnswer::Refused(Refusal::KeyRefused),
                 Written::Value => GuestAnswer::Refused(Refusal::ValueRefused),
                 // Every message has its place, so the writer never answers this.

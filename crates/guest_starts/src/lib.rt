@@ -10,7 +10,6 @@ ghost use Rattle.guest_steps.specs.Inner.{Readies, Begins};
 use guest_messages::Written;
 use guest_steps::Ask;
 use guest_steps::Finding;
-use guest_steps::GuestAnswer;
 use guest_steps::IDLE;
 use guest_steps::LENGTH;
 use guest_steps::MAX_REQUEST;
@@ -53,14 +52,15 @@ pub fn write_request(ask: Ask, key: &[u8], entries: &[u64], place: &mut [u8]) ->
     }
 }
 
-// Makes the request of n octets, which is in its place, the outstanding one, and writes as much of it as fits.
+// Makes the request of n octets, which is in its place, the outstanding one, and writes as much of it as fits; answers whether
+// octets are still owed.
 pub fn begin(
     n: usize,
     numbers: &mut [u64; NUMBERS],
     request: &[u8; MAX_REQUEST],
     room: u32,
     page: &mut [u8],
-) -> GuestAnswer
+) -> bool
     requires { ⌜ (length (now page) ≡ pageSize) × (room ≤ areaSize) × (n ≤ maxRequest) × (length (now request) ≡ maxRequest) ⌝ }
     requires { ⌜ (getD (now numbers) 3 0 < 2 ^ 32) × (getD (now numbers) 5 0 < 2 ^ 32) ⌝ }
     ensures { λ r. ⌜ Begins n (now (numbers .entry)) (now (request .entry)) (now (page .entry)) room r (now (numbers .exit)) (now (page .exit)) ⌝ }

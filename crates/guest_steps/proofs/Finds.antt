@@ -1,8 +1,8 @@
 -- What a call finds on the page, by its tests, and what a start finds; and octets of the request written on.
 -- Assumes nothing.
-use mathlib.Core.Path.{_≡_, refl}
+use mathlib.Core.Path.{_≡_, refl, ap, _∙_}
 use mathlib.Core.List.{List}
-use mathlib.Core.Bool.{cond}
+use mathlib.Core.Bool.{Bool, true, false, cond}
 use Prim.Native.Nat.{ℕ, _+_, _-_, _≤_, _<_}
 use lib.ListN.{length, getD, set}
 use lib.Dec.{ltb}
@@ -14,8 +14,9 @@ use Rattle.ring.specs.Writing.{fitting, sentOctets, sent}
 use Rattle.guest_messages.specs.Refusals.{notAnAck}
 use Rattle.guest_steps.specs.Refusals.{requestOutstanding}
 use Rattle.guest_steps.specs.Guest.{GuestState, idle, failed, guestIn, outgoing, withOutgoing, number, pending, requestOwed, toldOf}
-use Rattle.guest_steps.specs.Calls.{Found, unreadRequests, unreadAcks, found, wroteOn, readied, left}
+use Rattle.guest_steps.specs.Calls.{After, Found, unreadRequests, unreadAcks, found, wroteOn, readied, left}
 use Rattle.guest_steps.specs.declared.GuestAnswer.{GuestAnswer}
+use Rattle.guest_steps.specs.Inner.{writtenAnswer}
 use Rattle.guest_steps.proofs.Stored.{stored-outgoing}
 
 -- what a call finds: the page is wrong, or the one count, or the other; or an ack was refused; or the counts are good
@@ -63,6 +64,11 @@ pub writes-on : (g : GuestState) (page : List ℕ) (room n : ℕ) (r : GuestAnsw
 unfolding wroteOn
 writes-on g page room n r octets fits written answer = rw (answer, written, fits) refl
 
+-- what is told of octets written on
+pub told-written : (owed : Bool) → toldOf (writtenAnswer owed) ≡ number (cond owed requestOwed pending)
+told-written true = refl
+told-written false = refl
+
 -- the same, counted at their places
 pub stored-writes : (numbers request header payload : List ℕ) → length numbers ≡ 6 → (page octets : List ℕ) (room n written prod : ℕ) (r : GuestAnswer)
     → written ≡ getD numbers 2 0 + n → prod ≡ advanced (getD numbers 3 0) n → n ≡ fitting (outgoing (guestIn numbers request header payload)) room
@@ -73,3 +79,7 @@ pub stored-writes : (numbers request header payload : List ℕ) → length numbe
 stored-writes numbers request header payload long page octets room n written prod r ew ep fits eo answer =
     rw (stored-outgoing numbers request header payload long written prod, ew, ep)
     (writes-on (guestIn numbers request header payload) page room n r octets fits (rw ep at eo) (rw ew at answer))
+
+-- the same answer by another name
+pub answered : (r x : GuestAnswer) (g : GuestState) (octets : List ℕ) (a : After) → r ≡ x → left x g octets ≡ a → left r g octets ≡ a
+answered r x g octets a e same = ap (λ (y : GuestAnswer). left y g octets) e ∙ same

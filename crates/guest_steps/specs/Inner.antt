@@ -2,6 +2,7 @@
 -- Assumes nothing.
 use mathlib.Core.Path.{_≡_}
 use mathlib.Core.List.{List}
+use mathlib.Core.Bool.{Bool, true, false}
 use Prim.Native.Nat.{ℕ}
 use lib.ListN.{length, getD, set}
 use Rattle.octets.specs.Outcome.{Outcome, value, refused}
@@ -11,6 +12,7 @@ use Rattle.guest_messages.specs.Reader.{status, statusAndFlags}
 use Rattle.guest_steps.specs.Guest.{outstanding, guestOf, guestIn, refusalNumber}
 use Rattle.guest_steps.specs.Calls.{Found, found, wroteOn, readied, Seen, part, judged, readOn, left}
 use Rattle.guest_steps.specs.declared.GuestAnswer.{GuestAnswer}
+use Rattle.guest_steps.specs.declared.GuestAnswer.the-variants.{Pending, RequestOwed}
 use Rattle.guest_steps.specs.declared.Finding.{Finding}
 use Rattle.guest_steps.specs.declared.Finding.the-variants.{Counts, Hindered}
 use Rattle.guest_steps.specs.declared.Readiness.{Readiness}
@@ -42,18 +44,23 @@ Readies numbers page r =
     (request header payload : List ℕ)
     → (let g = guestIn numbers request header payload in readinessOf r ≡ readied (found g page) g)
 
+-- 2 while octets are owed, then 0
+abbrev pub writtenAnswer : Bool → GuestAnswer
+writtenAnswer true = RequestOwed
+writtenAnswer false = Pending
+
 -- as many octets of the request written as fit into `room` octets, and both counts behind them, whatever has been read of an
 -- ack
-abbrev pub WritesOn : List ℕ → List ℕ → List ℕ → ℕ → GuestAnswer → List ℕ → List ℕ → Type 0
+abbrev pub WritesOn : List ℕ → List ℕ → List ℕ → ℕ → Bool → List ℕ → List ℕ → Type 0
 WritesOn numbers request page room r numbers′ page′ =
     (header payload : List ℕ)
-    → left r (guestIn numbers′ request header payload) page′ ≡ wroteOn (guestIn numbers request header payload) page room
+    → left (writtenAnswer r) (guestIn numbers′ request header payload) page′ ≡ wroteOn (guestIn numbers request header payload) page room
 
 -- the same of a request of n octets that is in its place, of which nothing is written yet
-abbrev pub Begins : ℕ → List ℕ → List ℕ → List ℕ → ℕ → GuestAnswer → List ℕ → List ℕ → Type 0
+abbrev pub Begins : ℕ → List ℕ → List ℕ → List ℕ → ℕ → Bool → List ℕ → List ℕ → Type 0
 Begins n numbers request page room r numbers′ page′ =
     (header payload : List ℕ)
-    → left r (guestIn numbers′ request header payload) page′
+    → left (writtenAnswer r) (guestIn numbers′ request header payload) page′
     ≡ wroteOn (guestOf outstanding request n 0 (getD numbers 3 0) header payload (getD numbers 4 0) (getD numbers 5 0)) page room
 
 -- the ack read by a guest whose request has this type

@@ -6,7 +6,7 @@ ghost use lib.ListN.{length, getD};
 ghost use Rattle.page.specs.Page.{pageSize, areaSize, reqConsAt, rspProdAt, countIn, less, countedByGuest};
 ghost use Rattle.ring.specs.Writing.{GoodOutgoing};
 ghost use Rattle.guest_steps.specs.Guest.{maxRequest, guestIn, outgoing};
-ghost use Rattle.guest_steps.specs.Inner.{Finds, WritesOn, Keeps};
+ghost use Rattle.guest_steps.specs.Inner.{Finds, writtenAnswer, WritesOn, Keeps};
 use crate::FAILED;
 use crate::Finding;
 use crate::GuestAnswer;
@@ -65,13 +65,13 @@ fn unread(page: &[u8], rsp_cons: u32) -> u32
     page::unread_here(page, RSP_PROD, rsp_cons)
 }
 
-// Writes as many octets of the request as fit into `room` octets, and both counts.
+// Writes as many octets of the request as fit into `room` octets, and both counts; answers whether octets are still owed.
 pub fn write_on(
     numbers: &mut [u64; NUMBERS],
     request: &[u8; MAX_REQUEST],
     room: u32,
     page: &mut [u8],
-) -> GuestAnswer
+) -> bool
     requires { ⌜ (length (now page) ≡ pageSize) × (room ≤ areaSize) × (getD (now numbers) 5 0 < 2 ^ 32) ⌝ }
     requires { ⌜ GoodOutgoing maxRequest (outgoing (guestIn (now numbers) (now request) [] [])) ⌝ }
     ensures { λ r. ⌜ WritesOn (now (numbers .entry)) (now (request .entry)) (now (page .entry)) room r (now (numbers .exit)) (now (page .exit)) ⌝ }
@@ -95,7 +95,14 @@ pub fn write_on(
     held[WRITTEN] = written;
     held[OWN_REQ_PROD] = req_prod as u64;
     page::write_counts(page, RSP_CONS, rsp_cons, REQ_PROD, req_prod);
-    if written < size {
+    written < size
+}
+
+// The answer of a call that has written on.
+pub fn written_answer(owed: bool) -> GuestAnswer
+    ensures { λ r. ⌜ r ≡ writtenAnswer owed ⌝ }
+{
+    if owed {
         GuestAnswer::RequestOwed
     } else {
         GuestAnswer::Pending

@@ -7,6 +7,7 @@ pub use calls::keep;
 pub use calls::settle;
 pub use calls::write_counts;
 pub use calls::write_on;
+pub use calls::written_answer;
 use messages::HEADER;
 pub use seeing::look;
 

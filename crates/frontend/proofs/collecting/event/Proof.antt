@@ -15,6 +15,7 @@ use Rattle.guest_steps.specs.declared.GuestAnswer.{GuestAnswer}
 use Rattle.guest_steps.specs.declared.GuestAnswer.the-variants.{Pending, Refused}
 use Rattle.guest_steps.specs.declared.Finding.{Finding}
 use Rattle.frontend.proofs.Ways.{Within, found-within}
+use Rattle.guest_steps.proofs.Finds.{answered}
 use Rattle.frontend.proofs.Collects.{event-refused, event-idle, event-owing, event-reading, event-good}
 use Rattle.frontend.proofs.collecting.event.Statement.{statement}
 use Rattle.frontend.proofs.collecting.event.Tie as tie
@@ -81,16 +82,16 @@ write-on-requires c κs =
 
 returns-2 : tie.Need-returns-2
 returns-2 c =
-    let done = c .before .before in
+    let done = c .before .before .before in
     let owing = done .before .before .before in
     let busy = owing .before .before .before in
     let d = busy .before .before .before in
     let s = began d in
     let a = s .args in
-    let r : GuestAnswer = done .write-on .result in
+    let r : GuestAnswer = c .written-answer .result in
     concludes (looked d) _ _ r
-    (done .write-on .ensures (a .header .now) (a .payload .now)
-    ∙ event-owing (lent s) (page s) (counts d) (counts-found d) (busy .if1 .left) (lt-ltb _ _ (owing .if2 .taken)))
+    (answered r _ _ _ _ (c .written-answer .ensures) (done .write-on .ensures (a .header .now) (a .payload .now)
+    ∙ event-owing (lent s) (page s) (counts d) (counts-found d) (busy .if1 .left) (lt-ltb _ _ (owing .if2 .taken))))
 
 collect-requires : tie.Need-collect-requires
 collect-requires c κs =
@@ -133,6 +134,7 @@ event-spec =
     (λ c. search needs)
     (λ c. search needs)
     write-on-requires
+    (λ c κs. search needs)
     (λ c. search needs)
     returns-2
     (λ c κs. search needs)

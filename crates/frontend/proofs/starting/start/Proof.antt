@@ -20,6 +20,7 @@ use Rattle.guest_steps.specs.declared.Refusal.{Refusal}
 use Rattle.guest_steps.specs.declared.Refusal.the-variants.{KeyRefused, ValueRefused}
 use Rattle.guest_steps.specs.declared.Readiness.{Readiness}
 use Rattle.frontend.proofs.Goodness.{asked-fits, starts-good}
+use Rattle.guest_steps.proofs.Finds.{answered}
 use Rattle.frontend.proofs.Starts.{Wrote, wrote, refuses, has-place, asks, room-found, starts-stopped, starts-refused, starts-with}
 use Rattle.frontend.proofs.starting.start.Statement.{statement}
 use Rattle.frontend.proofs.starting.start.Tie as tie
@@ -108,15 +109,15 @@ begin-requires c κs =
 
 returns-2 : tie.Need-returns-2
 returns-2 c =
-    let done = c .before .before in
+    let done = c .before .before .before in
     let answer = done .before .before .before .before .before in
     let d = answer .before .before in
     let s = from d in
     let a = s .args in
-    let r : GuestAnswer = done .begin .result in
+    let r : GuestAnswer = c .written-answer .result in
     concludes s _ _ r
-    (done .begin .ensures (a .header .now) (a .payload .now)
-    ∙ starts-with (message s) (lent s) (page s) (room d) (there d) _ _ (wrote-it d _ (answer .answer .given .1)))
+    (answered r _ _ _ _ (c .written-answer .ensures) (done .begin .ensures (a .header .now) (a .payload .now)
+    ∙ starts-with (message s) (lent s) (page s) (room d) (there d) _ _ (wrote-it d _ (answer .answer .given .1))))
 
 returns-3 : tie.Need-returns-3
 returns-3 c = refused-by (c .before .before) _ (c .enum-told .given .1) KeyRefused (λ e. omega (arith, e)) refl
@@ -142,6 +143,7 @@ start-spec =
     (λ c κs. search needs)
     (λ c. search needs)
     begin-requires
+    (λ c κs. search needs)
     (λ c. search needs)
     (λ c. search needs)
     (λ c. search needs)
