@@ -66,7 +66,8 @@ pub event-answer-determined : (a b : EventAnswer) → answerNumber a ≡ answerN
 event-answer-determined a b e = sym (event-answer-back a) ∙ ap event-answer e ∙ event-answer-back b
 
 -- a response answers 1 or 2
-responded-answer : (s : HostState) (page : List ℕ) (n : ℕ) → (responded s page n .answer ≡ ackWritten) ⊎ (responded s page n .answer ≡ ackOwed)
+responded-answer : (s : HostState) (page : List ℕ) (n : ℕ)
+    → (responded s page n .answer ≡ ackWritten) ⊎ (responded s page n .answer ≡ ackOwed)
 unfolding responded
 responded-answer s page n = by (owes (responded s page n .state))
   where

@@ -29,11 +29,13 @@ proceeds-idle s t page n room idle read = rw (idle, ← read) refl
 
 -- once they have been read, the message is whole, or not
 module _ (t : HostState) (page : List ℕ) (room : ℕ) where
-  pub concludes-whole : (u : HostState) → whole (t .incoming .message) ≡ true → u ≡ carriedOver t → responded u page room ≡ afterRead t page room
+  pub concludes-whole : (u : HostState) → whole (t .incoming .message) ≡ true → u ≡ carriedOver t
+      → responded u page room ≡ afterRead t page room
   unfolding afterRead
   concludes-whole u w carried = rw (w, carried) refl
 
-  pub concludes-part : (octets : List ℕ) → whole (t .incoming .message) ≡ false → octets ≡ counted page (t .incoming .cons) (t .outgoing .prod)
+  pub concludes-part : (octets : List ℕ) → whole (t .incoming .message) ≡ false
+      → octets ≡ counted page (t .incoming .cons) (t .outgoing .prod)
       → left Waiting t octets ≡ afterRead t page room
   unfolding afterRead
   concludes-part octets w q = rw (w, q) refl

@@ -84,8 +84,10 @@ fn proceed(
 ) -> EventAnswer
     requires { ⌜ Good (interfaceIn (now numbers) (now header) (now payload) (now ack) (now key) (now entries)) ⌝ }
     requires { ⌜ (length (now page) ≡ pageSize) × (unread ≤ areaSize) × (room ≤ areaSize) ⌝ }
-    ensures { λ r. ⌜ left r (interfaceIn (now (numbers .exit)) (now (header .exit)) (now (payload .exit)) (now (ack .exit)) (now (key .exit)) (now (entries .exit))) (now (page .exit))
-        ≡ proceeded (interfaceIn (now (numbers .entry)) (now (header .entry)) (now (payload .entry)) (now (ack .entry)) (now (key .entry)) (now (entries .entry))) (now (page .entry)) unread room ⌝ }
+    ensures { λ r. ⌜ left r (interfaceIn (now (numbers .exit)) (now (header .exit)) (now (payload .exit)) (now (ack .exit)) (now (key .exit))
+        (now (entries .exit))) (now (page .exit))
+        ≡ proceeded (interfaceIn (now (numbers .entry)) (now (header .entry)) (now (payload .entry)) (now (ack .entry)) (now (key .entry))
+        (now (entries .entry))) (now (page .entry)) unread room ⌝ }
 {
     if numbers[ACK_WRITTEN] < numbers[ACK_LENGTH] {
         return interface::respond(numbers, ack, room, page);
@@ -107,10 +109,12 @@ fn conclude(
 ) -> EventAnswer
     requires { ⌜ GoodSettings (settingsIn (now numbers) (now key) (now entries)) ⌝ }
     requires { ⌜ Good (carriedOver (interfaceIn (now numbers) (now header) (now payload) (now ack) (now key) (now entries))) ⌝ }
-    requires { ⌜ (length (now page) ≡ pageSize) × (room ≤ areaSize) × (getD (now numbers) 4 0 < 2 ^ 32) × (getD (now numbers) 7 0 < 2 ^ 32) ⌝ }
+    requires { ⌜ (length (now page) ≡ pageSize) × (room ≤ areaSize) × (getD (now numbers) 4 0 < 2 ^ 32)
+        × (getD (now numbers) 7 0 < 2 ^ 32) ⌝ }
     ensures { λ r. ⌜ left r (interfaceIn (now (numbers .exit)) (now (header .entry)) (now (payload .entry)) (now (ack .exit)) (now (key .exit))
         (now (entries .exit))) (now (page .exit))
-        ≡ afterRead (interfaceIn (now (numbers .entry)) (now (header .entry)) (now (payload .entry)) (now (ack .entry)) (now (key .entry)) (now (entries .entry))) (now (page .entry)) room ⌝ }
+        ≡ afterRead (interfaceIn (now (numbers .entry)) (now (header .entry)) (now (payload .entry)) (now (ack .entry)) (now (key .entry))
+        (now (entries .entry))) (now (page .entry)) room ⌝ }
 {
     if ring::is_whole(header, numbers[TAKEN]) {
         interface::carry_over(numbers, header, payload, ack, key, entries);

@@ -22,7 +22,8 @@ use Rattle.page.proofs.Places.{put-length}
 use Rattle.page.proofs.Untouched.{counted-length, counted-octets, counted-cons, counted-prod, put-stands}
 use Rattle.ring.proofs.Sides.{less-advanced}
 use Rattle.ring.proofs.Holdings.{size-front, part-whole, part-all, holding-whole, holding-received}
-use Rattle.interface.specs.Events.{After, waiting, unread, unreadAcks, answeredWith, owes, responded, readIn, carriedIn, carriedOver, afterRead, proceeded, eventOf}
+use Rattle.interface.specs.Events.{After, waiting, unread, unreadAcks, answeredWith, owes}
+use Rattle.interface.specs.Events.{responded, readIn, carriedIn, carriedOver, afterRead, proceeded, eventOf}
 use Rattle.backend.specs.Rules.{Accepted, room, afterReading, BecomesWhole}
 use Rattle.interface.specs.States.{HostState}
 use Rattle.backend.proofs.Stages.{carried-held}

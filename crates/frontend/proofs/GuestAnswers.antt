@@ -28,7 +28,8 @@ use Rattle.guest_steps.specs.Guest.{GuestState}
 use Rattle.guest_steps.specs.declared.GuestAnswer.{GuestAnswer}
 use Rattle.guest_steps.specs.declared.GuestAnswer.the-variants.{Pending, RequestOwed, AckedStatus, AckedFlags, Refused}
 use Rattle.guest_steps.specs.declared.Refusal.{Refusal}
-use Rattle.guest_steps.specs.declared.Refusal.the-variants.{PageLength, RequestCount, ResponseCount, AckRefused, Outstanding, KeyRefused, ValueRefused}
+use Rattle.guest_steps.specs.declared.Refusal.the-variants.{PageLength, RequestCount, ResponseCount}
+use Rattle.guest_steps.specs.declared.Refusal.the-variants.{AckRefused, Outstanding, KeyRefused, ValueRefused}
 use Rattle.frontend.proofs.Goodness.{judged-all}
 use Rattle.frontend.proofs.Ways.{found-ways, seen-ways, event-ways, start-ways}
 
@@ -95,7 +96,8 @@ wrote-low g page n k =
     wrote-answer g page n (λ (t : Told). t ≡ number k → k ≤ requestOwed) (λ _ e. let x = number-same _ _ e in omega arith)
     (λ _ e. let x = number-same _ _ e in omega arith)
 
-wrote-more : (g : GuestState) (page : List ℕ) (n : ℕ) → wroteOn g page n .answer ≡ number requestOwed → owes (wroteOn g page n .state) ≡ true
+wrote-more : (g : GuestState) (page : List ℕ) (n : ℕ) → wroteOn g page n .answer ≡ number requestOwed
+    → owes (wroteOn g page n .state) ≡ true
 wrote-more g page n =
     wrote-answer g page n (λ (t : Told). t ≡ number requestOwed → owes (wroteOn g page n .state) ≡ true) (λ more e. more)
     (λ none e. absurd (let x = number-same _ _ e in omega arith))
@@ -109,10 +111,12 @@ pub wrote-no-ack : (g : GuestState) (page : List ℕ) (n : ℕ) (r : Reading) �
 wrote-no-ack g page n r =
     wrote-answer g page n (λ (t : Told). t ≡ acked r → ⊥) (λ _ e. acked-no-number r _ (sym e)) (λ _ e. acked-no-number r _ (sym e))
 
-wrote-owed : (g : GuestState) (page : List ℕ) (n : ℕ) → owes (wroteOn g page n .state) ≡ true → wroteOn g page n .answer ≡ number requestOwed
+wrote-owed : (g : GuestState) (page : List ℕ) (n : ℕ) → owes (wroteOn g page n .state) ≡ true
+    → wroteOn g page n .answer ≡ number requestOwed
 wrote-owed g page n y = wrote-answer g page n (λ (t : Told). t ≡ number requestOwed) (λ more. refl) (λ none. absurd (false≢true (sym none ∙ y)))
 
-wrote-pending : (g : GuestState) (page : List ℕ) (n : ℕ) → owes (wroteOn g page n .state) ≡ false → wroteOn g page n .answer ≡ number pending
+wrote-pending : (g : GuestState) (page : List ℕ) (n : ℕ) → owes (wroteOn g page n .state) ≡ false
+    → wroteOn g page n .answer ≡ number pending
 wrote-pending g page n y = wrote-answer g page n (λ (t : Told). t ≡ number pending) (λ more. absurd (false≢true (sym y ∙ more))) (λ none. refl)
 
 -- laws on ↔: one after the other, and beside what is known
@@ -390,7 +394,8 @@ module _ (g : GuestState) (page : List ℕ) where
 -- ---- a start
 
 -- once the request is begun, or refused by the writer
-started-refuses : (request : Outcome (List ℕ)) (g : GuestState) (page : List ℕ) (n k : ℕ) → requestOwed < k → (request ≡ refused k → ⊥)
+started-refuses : (request : Outcome (List ℕ)) (g : GuestState) (page : List ℕ) (n k : ℕ) → requestOwed < k
+    → (request ≡ refused k → ⊥)
     → startedBy request g page n .answer ≡ number k → ⊥
 unfolding startedBy
 started-refuses (value m) g page n k high never e = let x = wrote-low (begun g m) page n k e in omega arith

@@ -39,7 +39,8 @@ wrote-length g page n =
     let xs = sentOctets o (fitting o n) in
     guest-counted-length (put requestsAt page (o .prod) xs) _ _ ∙ put-length requestsAt xs page (o .prod)
 
-started-length : (request : Outcome (List ℕ)) (g : GuestState) (page : List ℕ) (n : ℕ) → length (startedBy request g page n .page) ≡ length page
+started-length : (request : Outcome (List ℕ)) (g : GuestState) (page : List ℕ) (n : ℕ)
+    → length (startedBy request g page n .page) ≡ length page
 unfolding startedBy
 started-length (value m) g page n = wrote-length (begun g m) page n
 started-length (refused k) g page n = refl
@@ -115,7 +116,8 @@ module _ (g : GuestState) (page : List ℕ) (good : Good g) where
 abbrev Kept : GuestState → List ℕ → ℕ → After → Type 0
 Kept g page i a = (RequestPlace g a i → ⊥) → getD (a .page) i 0 ≡ getD page i 0
 
-kept-wrote : (g t : GuestState) (page : List ℕ) (n i : ℕ) → t .«req_prod» ≡ g .«req_prod» → Good t → NoOwnCount i → Kept g page i (wroteOn t page n)
+kept-wrote : (g t : GuestState) (page : List ℕ) (n i : ℕ) → t .«req_prod» ≡ g .«req_prod» → Good t → NoOwnCount i
+    → Kept g page i (wroteOn t page n)
 unfolding wroteOn
 kept-wrote g t page n i same good own free =
     let o = outgoing t in
@@ -183,7 +185,8 @@ module _ (g : GuestState) (page : List ℕ) (good : Good g) where
 
 -- ---- the octets written are the request's next ones
 
-wrote-next : (g : GuestState) (page : List ℕ) (n : ℕ) → Good g → length page ≡ pageSize → n ≤ areaSize → WritesNext g (wroteOn g page n)
+wrote-next : (g : GuestState) (page : List ℕ) (n : ℕ) → Good g → length page ≡ pageSize → n ≤ areaSize
+    → WritesNext g (wroteOn g page n)
 unfolding wroteOn
 wrote-next g page n good size small =
     let o = outgoing g in

@@ -31,7 +31,8 @@ wrote-reads-none : (g : GuestState) (page : List ℕ) (n : ℕ) → incoming (wr
 unfolding wroteOn
 wrote-reads-none g page n = refl
 
-started-reads-none : (request : Outcome (List ℕ)) (g : GuestState) (page : List ℕ) (n : ℕ) → incoming (startedBy request g page n .state) ≡ incoming g
+started-reads-none : (request : Outcome (List ℕ)) (g : GuestState) (page : List ℕ) (n : ℕ)
+    → incoming (startedBy request g page n .state) ≡ incoming g
 unfolding startedBy
 started-reads-none (value m) g page n = wrote-reads-none (begun g m) page n
 started-reads-none (refused k) g page n = refl

@@ -90,7 +90,8 @@ wrote (value m) request buffer w n l e = wrote-message m request buffer w n l e
 wrote (refused k) request buffer w n l e = absurd (value-not-refused n k (ap writtenOutcomeOf (sym l) ∙ ap (λ (a : After). a .answer) e))
 
 -- what a writer that refuses by another number than that of its place has done
-pub refuses : (o : Outcome (List ℕ)) (request buffer : List ℕ) (w : Written) (k : ℕ) → (k ≡ bufferTooShort → ⊥) → writtenOutcomeOf w ≡ refused k
+pub refuses : (o : Outcome (List ℕ)) (request buffer : List ℕ) (w : Written) (k : ℕ) → (k ≡ bufferTooShort → ⊥)
+    → writtenOutcomeOf w ≡ refused k
     → after w buffer ≡ written o request → (o ≡ refused k) × (buffer ≡ request)
 unfolding written
 refuses (value m) request buffer w k other r e = absurd (other (no-other-refusal m request buffer w k r e .0))
@@ -102,7 +103,8 @@ module _ (o : Outcome (List ℕ)) (asked : Asked o) where
   never-ten : (o ≡ refused bufferTooShort) → ⊥
   never-ten = never o asked
     where
-      test : (t : Bool) (m : List ℕ) (k : ℕ) → (k ≡ bufferTooShort → ⊥) → cond t (value m) (refused k) ≡ refused bufferTooShort → ⊥
+      test : (t : Bool) (m : List ℕ) (k : ℕ) → (k ≡ bufferTooShort → ⊥) → cond t (value m) (refused k) ≡ refused bufferTooShort
+          → ⊥
       test true m k other e = value-not-refused m bufferTooShort e
       test false m k other e = other (refused-same k bufferTooShort e)
 
@@ -140,6 +142,7 @@ module _ (o : Outcome (List ℕ)) (g : GuestState) (page : List ℕ) where
     starts-refused k e = rw (← there, e) refl
 
     pub starts-with : (n : ℕ) (buffer : List ℕ) → Wrote o (g .request) n buffer
-        → wroteOn (guestOf outstanding buffer n 0 (g .«req_prod») (g .header) (g .payload) (g .taken) (g .«rsp_cons»)) page room ≡ startOf o g page
+        → wroteOn (guestOf outstanding buffer n 0 (g .«req_prod») (g .header) (g .payload) (g .taken) (g .«rsp_cons»)) page room
+        ≡ startOf o g page
     unfolding startBy startedBy
     starts-with n buffer w = rw (w .octets, w .size, ← there, w .is) refl

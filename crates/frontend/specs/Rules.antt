@@ -82,5 +82,6 @@ pub record Alike (a b : After) : Type 0 where
 -- a state that calls reach from setup
 pub data Reached : GuestState → Type 0 where
   fromSetUp : Reached guestAtSetup
-  fromStart : (request : Outcome (List ℕ)) (g : GuestState) (page : List ℕ) → Asked request → Reached g → Reached (startOf request g page .state)
+  fromStart : (request : Outcome (List ℕ)) (g : GuestState) (page : List ℕ) → Asked request → Reached g
+      → Reached (startOf request g page .state)
   fromEvent : (g : GuestState) (page : List ℕ) → Reached g → Reached (eventOf g page .state)

@@ -63,7 +63,8 @@ pub fn begin(
 ) -> bool
     requires { ⌜ (length (now page) ≡ pageSize) × (room ≤ areaSize) × (n ≤ maxRequest) × (length (now request) ≡ maxRequest) ⌝ }
     requires { ⌜ (getD (now numbers) 3 0 < 2 ^ 32) × (getD (now numbers) 5 0 < 2 ^ 32) ⌝ }
-    ensures { λ r. ⌜ Begins n (now (numbers .entry)) (now (request .entry)) (now (page .entry)) room r (now (numbers .exit)) (now (page .exit)) ⌝ }
+    ensures { λ r. ⌜ Begins n (now (numbers .entry)) (now (request .entry)) (now (page .entry)) room r (now (numbers .exit))
+        (now (page .exit)) ⌝ }
 {
     let held = &mut numbers[..];
     held[PHASE] = OUTSTANDING;

@@ -52,7 +52,8 @@ module _ (g : GuestState) (page : List ℕ) where
   unfolding readied
   readied-idle f e p = rw (← e, eq-eqb _ _ p) refl
 
-  pub readied-busy : (f : Found) → value f ≡ found g page → (g .phase ≡ idle → ⊥) → refused requestOutstanding ≡ readied (found g page) g
+  pub readied-busy : (f : Found) → value f ≡ found g page → (g .phase ≡ idle → ⊥)
+      → refused requestOutstanding ≡ readied (found g page) g
   unfolding readied
   readied-busy f e p = rw (← e, ne-eqb _ _ p) refl
 
@@ -70,12 +71,15 @@ told-written true = refl
 told-written false = refl
 
 -- the same, counted at their places
-pub stored-writes : (numbers request header payload : List ℕ) → length numbers ≡ 6 → (page octets : List ℕ) (room n written prod : ℕ) (r : GuestAnswer)
-    → written ≡ getD numbers 2 0 + n → prod ≡ advanced (getD numbers 3 0) n → n ≡ fitting (outgoing (guestIn numbers request header payload)) room
+pub stored-writes : (numbers request header payload : List ℕ) → length numbers ≡ 6
+    → (page octets : List ℕ) (room n written prod : ℕ) (r : GuestAnswer)
+    → written ≡ getD numbers 2 0 + n → prod ≡ advanced (getD numbers 3 0) n
+    → n ≡ fitting (outgoing (guestIn numbers request header payload)) room
     → octets ≡ countedByGuest (put requestsAt page (getD numbers 3 0) (sentOctets (outgoing (guestIn numbers request header payload)) n))
     (getD numbers 5 0) prod
     → toldOf r ≡ number (cond (ltb written (getD numbers 1 0)) requestOwed pending)
-    → left r (guestIn (set (set numbers 2 written) 3 prod) request header payload) octets ≡ wroteOn (guestIn numbers request header payload) page room
+    → left r (guestIn (set (set numbers 2 written) 3 prod) request header payload) octets
+    ≡ wroteOn (guestIn numbers request header payload) page room
 stored-writes numbers request header payload long page octets room n written prod r ew ep fits eo answer =
     rw (stored-outgoing numbers request header payload long written prod, ew, ep)
     (writes-on (guestIn numbers request header payload) page room n r octets fits (rw ep at eo) (rw ew at answer))

@@ -24,7 +24,8 @@ module _ (header payload rest : List ℕ) (head : length header ≡ headerSize) 
       let none : drop maxAckPayload rest ≡ [] = drop-of-length-le rest {i = maxAckPayload} (omega arith) in
       rw (take-at header rest headerSize head, drop-at header rest headerSize head, none, append-nil payload) refl
 
-  pub put-part : (m n : ℕ) → m ≡ headerSize + n → take m (putMid headerSize maxAckPayload (header ++ rest) payload) ≡ header ++ take n payload
+  pub put-part : (m n : ℕ) → m ≡ headerSize + n
+      → take m (putMid headerSize maxAckPayload (header ++ rest) payload) ≡ header ++ take n payload
   put-part m n e =
       let size : m ≡ length header + n = omega arith in
       rw (put-together, size) (take-append-add header payload n)

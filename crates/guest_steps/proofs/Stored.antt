@@ -29,7 +29,8 @@ module _ (numbers request header payload : List ℕ) (long : length numbers ≡ 
       (λ a b c d e f. refl) numbers long
 
 -- phase, octets taken of the ack and own rsp_cons
-pub stored-kept : (numbers request header payload : List ℕ) (phase taken cons : ℕ) (numbers′ : List ℕ) → Keeps numbers phase taken cons numbers′
+pub stored-kept : (numbers request header payload : List ℕ) (phase taken cons : ℕ) (numbers′ : List ℕ)
+    → Keeps numbers phase taken cons numbers′
     → guestIn numbers′ request header payload
     ≡ guestOf phase request (getD numbers 1 0) (getD numbers 2 0) (getD numbers 3 0) header payload taken cons
 stored-kept numbers request header payload phase taken cons numbers′ keeps =

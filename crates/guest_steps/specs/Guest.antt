@@ -18,7 +18,8 @@ use Rattle.guest_steps.specs.Refusals.{requestOutstanding}
 use Rattle.guest_messages.specs.Reader.{Reading, status, statusAndFlags}
 use Rattle.guest_steps.specs.declared.Guest.{Guest}
 use Rattle.guest_steps.specs.declared.Refusal.{Refusal}
-use Rattle.guest_steps.specs.declared.Refusal.the-variants.{PageLength, RequestCount, ResponseCount, AckRefused, Outstanding, KeyRefused, ValueRefused}
+use Rattle.guest_steps.specs.declared.Refusal.the-variants.{PageLength, RequestCount, ResponseCount}
+use Rattle.guest_steps.specs.declared.Refusal.the-variants.{AckRefused, Outstanding, KeyRefused, ValueRefused}
 use Rattle.guest_steps.specs.declared.GuestAnswer.{GuestAnswer}
 use Rattle.guest_steps.specs.declared.GuestAnswer.the-variants.{Pending, RequestOwed, AckedStatus, AckedFlags, Refused}
 

@@ -64,7 +64,8 @@ Begins n numbers request page room r numbers′ page′ =
     ≡ wroteOn (guestOf outstanding request n 0 (getD numbers 3 0) header payload (getD numbers 4 0) (getD numbers 5 0)) page room
 
 -- the ack read by a guest whose request has this type
-abbrev pub Collects : ℕ → List ℕ → List ℕ → List ℕ → List ℕ → ℕ → GuestAnswer → List ℕ → List ℕ → List ℕ → List ℕ → Type 0
+abbrev pub Collects : ℕ → List ℕ → List ℕ → List ℕ → List ℕ → ℕ → GuestAnswer → List ℕ → List ℕ → List ℕ
+    → List ℕ → Type 0
 Collects kind numbers header payload page unread r numbers′ header′ payload′ page′ =
     (request : List ℕ) → typeIn request ≡ kind
     → left r (guestIn numbers′ request header′ payload′) page′ ≡ readOn (guestIn numbers request header payload) page unread

@@ -74,7 +74,8 @@ pub fn write_on(
 ) -> bool
     requires { ⌜ (length (now page) ≡ pageSize) × (room ≤ areaSize) × (getD (now numbers) 5 0 < 2 ^ 32) ⌝ }
     requires { ⌜ GoodOutgoing maxRequest (outgoing (guestIn (now numbers) (now request) [] [])) ⌝ }
-    ensures { λ r. ⌜ WritesOn (now (numbers .entry)) (now (request .entry)) (now (page .entry)) room r (now (numbers .exit)) (now (page .exit)) ⌝ }
+    ensures { λ r. ⌜ WritesOn (now (numbers .entry)) (now (request .entry)) (now (page .entry)) room r (now (numbers .exit))
+        (now (page .exit)) ⌝ }
 {
     let held = &mut numbers[..];
     let rsp_cons = held[OWN_RSP_CONS] as u32;
@@ -112,7 +113,8 @@ pub fn written_answer(owed: bool) -> GuestAnswer
 // Writes both own counts.
 pub fn write_counts(numbers: &[u64; NUMBERS], page: &mut [u8])
     requires { ⌜ (length (now page) ≡ pageSize) × (getD (now numbers) 3 0 < 2 ^ 32) × (getD (now numbers) 5 0 < 2 ^ 32) ⌝ }
-    ensures { λ _. ⌜ now (page .exit) ≡ countedByGuest (now (page .entry)) (getD (now (numbers .entry)) 5 0) (getD (now (numbers .entry)) 3 0) ⌝ }
+    ensures { λ _.
+        ⌜ now (page .exit) ≡ countedByGuest (now (page .entry)) (getD (now (numbers .entry)) 5 0) (getD (now (numbers .entry)) 3 0) ⌝ }
 {
     page::write_counts(
         page,

@@ -30,13 +30,15 @@ unfolding carriedOver
 carries s c e = ap (over s) e
 
 -- the message read
-pub reads : (s : HostState) (page : List ℕ) (n : ℕ) (i : Incoming) → i ≡ receivedFrom requestsAt page (s .incoming) n → withIncoming s i ≡ readIn s page n
+pub reads : (s : HostState) (page : List ℕ) (n : ℕ) (i : Incoming) → i ≡ receivedFrom requestsAt page (s .incoming) n
+    → withIncoming s i ≡ readIn s page n
 unfolding readIn
 reads s page n i e = ap (withIncoming s) e
 
 -- ack octets sent, and the counts written
 pub responds : (s : HostState) (page : List ℕ) (room n : ℕ) (r : EventAnswer) (octets : List ℕ) → n ≡ fitting (s .outgoing) room
-    → octets ≡ counted (put responsesAt page (s .outgoing .prod) (sentOctets (s .outgoing) n)) (s .incoming .cons) (advanced (s .outgoing .prod) n)
+    → octets
+    ≡ counted (put responsesAt page (s .outgoing .prod) (sentOctets (s .outgoing) n)) (s .incoming .cons) (advanced (s .outgoing .prod) n)
     → answerNumber r ≡ cond (ltb (s .outgoing .written + n) (s .outgoing .length)) ackOwed ackWritten
     → left r (withOutgoing s (sent (s .outgoing) n)) octets ≡ responded s page room
 unfolding responded

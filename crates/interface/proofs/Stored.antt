@@ -39,9 +39,11 @@ module _ (numbers header payload ack key entries : List ℕ) (long : length numb
   -- what a request carried out leaves: its settings and its ack, and a next message begun
   pub stored-carried : (flags count size : ℕ) (ack′ key′ entries′ : List ℕ)
       → interfaceIn (set (set (set (set (set numbers 1 flags) 2 count) 3 0) 5 size) 6 0) header payload ack′ key′ entries′
-      ≡ over (interfaceIn numbers header payload ack key entries) (carriedAs (settingsOf (getD numbers 0 0) flags key′ entries′ count) ack′ size)
+      ≡ over (interfaceIn numbers header payload ack key entries)
+      (carriedAs (settingsOf (getD numbers 0 0) flags key′ entries′ count) ack′ size)
   stored-carried flags count size ack′ key′ entries′ =
-      by-length 8 (λ (l : List ℕ). interfaceIn (set (set (set (set (set l 1 flags) 2 count) 3 0) 5 size) 6 0) header payload ack′ key′ entries′
+      by-length 8
+      (λ (l : List ℕ). interfaceIn (set (set (set (set (set l 1 flags) 2 count) 3 0) 5 size) 6 0) header payload ack′ key′ entries′
       ≡ over (interfaceIn l header payload ack key entries) (carriedAs (settingsOf (getD l 0 0) flags key′ entries′ count) ack′ size))
       (λ a b c d e f g h. refl) numbers long
 

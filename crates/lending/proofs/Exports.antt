@@ -50,7 +50,8 @@ tail [] = []
 tail (x ∷ xs) = xs
 
 -- what the call binds: the lifetime ν first, the whole of its token, and the references to the parts first
-abbrev pub passing : {Ks Qs Z X Y : Type 0} (ps : List Part) → (Z → Values ps) → Lft × Ks → Share × Qs → RefT Z → X → Y → ℕ → Names ps
+abbrev pub passing : {Ks Qs Z X Y : Type 0} (ps : List Part) → (Z → Values ps) → Lft × Ks → Share × Qs → RefT Z → X → Y → ℕ
+    → Names ps
     → (Lft × Ks) × (Share × Qs) × Unit {0} × Refs ps X × Ptrs ps Y
 passing {X = X} {Y = Y} ps parts κs qs ref x us ν γs = (
   (ν ∷ [], κs .1),
@@ -63,7 +64,8 @@ passing {X = X} {Y = Y} ps parts κs qs ref x us ν γs = (
 -- where the call asks for less
 pub asking : {M : Type 1} (𝓤 : URA M) (φ ψ : Type 0) (P : SProp 𝓤) {Q : SProp 𝓤} → (φ → ψ) → ent 𝓤 (sep 𝓤 P (fact 𝓤 ψ)) Q
     → ent 𝓤 (sep 𝓤 P (fact 𝓤 φ)) Q
-asking 𝓤 φ ψ P h k = via 𝓤 (sep 𝓤 P (fact 𝓤 ψ)) (monoR 𝓤 P (fact-use 𝓤 φ (id⊢ 𝓤 (fact 𝓤 φ)) (λ x. factI 𝓤 ψ (fact 𝓤 φ) (h x)))) k
+asking 𝓤 φ ψ P h k = via 𝓤 (sep 𝓤 P (fact 𝓤 ψ))
+    (monoR 𝓤 P (fact-use 𝓤 φ (id⊢ 𝓤 (fact 𝓤 φ)) (λ x. factI 𝓤 ψ (fact 𝓤 φ) (h x)))) k
 
 -- ---- values of the types that MIR has for a function's parameters fit its locals
 abbrev tysOf : ℕ → List Local → List Ty
@@ -106,7 +108,8 @@ result-type k [] bs τ τs e = absurd (subst is-cons e tt)
 result-type k (local σ h ∷ ls) bs τ τs e = ap (heads τ) e
 
 -- ---- a function that forwards to a call, whatever its parameters are
-module _ (S : Ended) {M : Type 1} (𝓤 : URA M) (H : Heap 𝓤) (A : Atoms 𝓤) (W : Given 𝓤 H A) (c : Clauses 𝓤 S) (𝓣 : Tables 𝓤 H) (fn : Fn)
+module _ (S : Ended) {M : Type 1} (𝓤 : URA M) (H : Heap 𝓤) (A : Atoms 𝓤) (W : Given 𝓤 H A) (c : Clauses 𝓤 S) (𝓣 : Tables 𝓤 H)
+    (fn : Fn)
     (callee : Name) (spelt : (κs : Lfts (S .signature .lifetimes)) → Spelts (typesAt (S .signature .params) κs)) where
   module _ (κs : Lfts (S .signature .lifetimes)) (a : Args (S .signature) κs) where
     abbrev vals : Vals (S .signature) κs
@@ -131,7 +134,8 @@ module _ (S : Ended) {M : Type 1} (𝓤 : URA M) (H : Heap 𝓤) (A : Atoms 𝓤
       let R : RattleType = typeAt (S .signature .result) κs in
       let own : R .Denot → Val → Fml = λ r v. R .own r (v ∷ []) in
       let all : List RattleType = typesAt (S .signature .params) κs in
-      let mir : τ ∷ mirs all ≡ signatureOf fn .2 = sym (ap (λ (τs : List Ty). τs ++ mirs all) (one κs)) ∙ ap (λ (s : Lowered). s .2) (matches κs) in
+      let mir : τ ∷ mirs all ≡ signatureOf fn .2 = sym (ap (λ (τs : List Ty). τs ++ mirs all) (one κs))
+      ∙ ap (λ (s : Lowered). s .2) (matches κs) in
       forward 𝓤 H A W (𝓣 .C) (𝓣 .Λ) (fmOf 𝓤 H (W .laws) 𝓣) callee (us κs a)
       (sep 𝓤 (onEntry 𝓤 H A (S .signature) κs qs a (vals κs a)) (c κs a .requires g))
       (tripleOf 𝓤 H A (S .signature) (closing 𝓤 H A S c) .post ((κs, qs, bounds, a, vals κs a), g)) (met κs qs bounds a g)
@@ -167,18 +171,20 @@ module _ (row : RattleType) (ps : List Part) (m : ℕ) (rest : List (Slot (suc m
 
     -- the call meets its contract, at the lifetimes κs, a struct behind ref, and the other parameters x, whose machine values are us:
     -- from what is asked it leaves what is ensured, over the parts
-    module _ (κs : Lfts (suc m)) (qs : Shares (suc m)) (ref : RefT (row .Denot)) (x : Denots (typesAt rest κs)) (us : Valss (typesAt rest κs)) where
-      abbrev Met : (ν : ℕ) → Fml → SProp 𝓤 → (Y : Type 0) → (Y → Fml) → (typeAt result κs .Denot → Y → SProp 𝓤) → Type 1
-      Met ν passed asked Y lasts ensures =
-          ent 𝓤 (sep 𝓤 (sep 𝓤 (sep 𝓤 (A .lft (ν ∷ []) fullShare) (toks 𝓤 A m (κs .1) (qs .1))) (sem 𝓤 H A passed)) asked)
-          (𝓣 .C callee (pointers (ref .ptr .0) (ref .ptr .1) ps (flat (typesAt rest κs) us)) (After 𝓤 H A W (toks 𝓤 A m (κs .1) (qs .1))
-          (typeAt result κs .Denot) (λ r v. typeAt result κs .own r (v ∷ [])) (A .lft (ν ∷ []) fullShare) Y lasts ensures))
+    module _ (κs : Lfts (suc m)) (qs : Shares (suc m)) (ref : RefT (row .Denot)) (x : Denots (typesAt rest κs)) (us : Valss (typesAt rest κs))
+      where
+        abbrev Met : (ν : ℕ) → Fml → SProp 𝓤 → (Y : Type 0) → (Y → Fml) → (typeAt result κs .Denot → Y → SProp 𝓤) → Type 1
+        Met ν passed asked Y lasts ensures =
+            ent 𝓤 (sep 𝓤 (sep 𝓤 (sep 𝓤 (A .lft (ν ∷ []) fullShare) (toks 𝓤 A m (κs .1) (qs .1))) (sem 𝓤 H A passed)) asked)
+            (𝓣 .C callee (pointers (ref .ptr .0) (ref .ptr .1) ps (flat (typesAt rest κs) us)) (After 𝓤 H A W (toks 𝓤 A m (κs .1) (qs .1))
+            (typeAt result κs .Denot) (λ r v. typeAt result κs .own r (v ∷ [])) (A .lft (ν ∷ []) fullShare) Y lasts ensures))
 
     pub exported : (S : Opens 𝓤 H A row ps) (c : Clauses 𝓤 Changed) (τ : Ty) (res : (κs : Lfts (suc m)) → Spelt (typeAt result κs))
         → ((κs : Lfts (suc m)) → typeAt result κs .mir ≡ τ ∷ []) → Matches (Changed .signature) fn → Passes
         → ((κs : Lfts (suc m)) (qs : Shares (suc m)) (ref : RefT (row .Denot)) (x : Denots (typesAt rest κs)) (us : Valss (typesAt rest κs))
         (g : c κs (ref, x) .ghost) (ν : ℕ) (γs : Names ps) → Met κs qs ref x us ν
-        (ownss (ref .ptr .0) (ref .ptr .1) (named 0) (ν ∷ []) ps (S .parts (ref .now)) γs (owns (typesAt rest κs) x us)) (c κs (ref, x) .requires g)
+        (ownss (ref .ptr .0) (ref .ptr .1) (named 0) (ν ∷ []) ps (S .parts (ref .now)) γs (owns (typesAt rest κs) x us))
+        (c κs (ref, x) .requires g)
         (Lasts ps (Fins κs rest ks x)) (saids ps γs (Fins κs rest ks x) (lastsOf κs rest ks x))
         (λ r zs. c κs (ref, x) .ensures g r (
           at-last ref (S .of (firsts ps (Fins κs rest ks x) zs)),
@@ -193,9 +199,12 @@ module _ (row : RattleType) (ps : List Part) (m : ℕ) (rest : List (Slot (suc m
         let x : Denots (typesAt rest κs) = a .1 in
         let us : Valss (typesAt rest κs) = valss (typesAt rest κs) (told (typesAt rest κs) (spelt κs)) x in
         let vs : List Val = pointers (ref .ptr .0) (ref .ptr .1) ps (others κs x) in
-        lends-to 𝓤 H A W (toks 𝓤 A m (κs .1) (qs .1)) (typeAt result κs .Denot) (λ r v. typeAt result κs .own r (v ∷ [])) row ps S (named 0) (named 0)
-        (κs .0) (qs .0) (ref .ptr .0) (ref .ptr .1) (ref .name) (ref .now) (owns (typesAt rest κs) x us) (Fins κs rest ks x) (lastsOf κs rest ks x)
-        (c κs a .requires g) (λ r w ws. c κs a .ensures g r (at-last ref w, outs κs rest ks x ws)) (𝓣 .C callee vs) (fmOf 𝓤 H (W .laws) 𝓣 callee vs)
+        lends-to 𝓤 H A W (toks 𝓤 A m (κs .1) (qs .1)) (typeAt result κs .Denot) (λ r v. typeAt result κs .own r (v ∷ [])) row ps S
+        (named 0) (named 0)
+        (κs .0) (qs .0) (ref .ptr .0) (ref .ptr .1) (ref .name) (ref .now) (owns (typesAt rest κs) x us) (Fins κs rest ks x)
+        (lastsOf κs rest ks x)
+        (c κs a .requires g) (λ r w ws. c κs a .ensures g r (at-last ref w, outs κs rest ks x ws)) (𝓣 .C callee vs)
+        (fmOf 𝓤 H (W .laws) 𝓣 callee vs)
         (met κs qs ref x us g))
 
     pub looked : (S : Looks 𝓤 H A row ps) (c : Clauses 𝓤 Looked) (τ : Ty) (res : (κs : Lfts (suc m)) → Spelt (typeAt result κs))
@@ -207,21 +216,26 @@ module _ (row : RattleType) (ps : List Part) (m : ℕ) (rest : List (Slot (suc m
         (Looking.Lasts ps (Fins κs rest ks x)) (Looking.saids ps (Fins κs rest ks x) (lastsOf κs rest ks x))
         (λ r zs. c κs (ref, x) .ensures g r (ref, outs κs rest ks x (Looking.lastly ps (Fins κs rest ks x) zs))))
         → Meets 𝓤 H A (Looked .signature) (WpFn 𝓤 H (𝓣 .C) (𝓣 .Λ) fn) (closing 𝓤 H A Looked c)
-    looked S c τ res one matches goes met = forwarded Looked 𝓤 H A W c 𝓣 fn callee (λ κs. (a-shr (named 0) (κs .0) row, spelt κs)) τ res one matches
+    looked S c τ res one matches goes met = forwarded Looked 𝓤 H A W c 𝓣 fn callee (λ κs. (a-shr (named 0) (κs .0) row, spelt κs)) τ res
+        one matches
         (λ κs a. pointers (a .0 .ptr .0) (a .0 .ptr .1) ps (others κs (a .1))) (λ κs a. goes κs (a .1) (a .0 .ptr .0) (a .0 .ptr .1))
         (λ κs qs bounds a g.
         let ref : RefT (row .Denot) = a .0 in
         let x : Denots (typesAt rest κs) = a .1 in
         let us : Valss (typesAt rest κs) = valss (typesAt rest κs) (told (typesAt rest κs) (spelt κs)) x in
         let vs : List Val = pointers (ref .ptr .0) (ref .ptr .1) ps (others κs x) in
-        looks-to 𝓤 H A W (toks 𝓤 A m (κs .1) (qs .1)) (typeAt result κs .Denot) (λ r v. typeAt result κs .own r (v ∷ [])) row ps S (named 0) (named 0)
-        (κs .0) (qs .0) (ref .ptr .0) (ref .ptr .1) (ref .name) (ref .now) (owns (typesAt rest κs) x us) (Fins κs rest ks x) (lastsOf κs rest ks x)
+        looks-to 𝓤 H A W (toks 𝓤 A m (κs .1) (qs .1)) (typeAt result κs .Denot) (λ r v. typeAt result κs .own r (v ∷ [])) row ps S
+        (named 0) (named 0)
+        (κs .0) (qs .0) (ref .ptr .0) (ref .ptr .1) (ref .name) (ref .now) (owns (typesAt rest κs) x us) (Fins κs rest ks x)
+        (lastsOf κs rest ks x)
         (c κs a .requires g) (λ r ws. c κs a .ensures g r (ref, outs κs rest ks x ws)) (𝓣 .C callee vs) (fmOf 𝓤 H (W .laws) 𝓣 callee vs)
         (met κs qs ref x us g))
 
 -- ---- as the statement about the function
-module _ {M : Type 1} (𝓤 : URA M) (H : Heap 𝓤) (𝓜 : Model 𝓤 H) (𝓖 : GhostRules 𝓤 H) (𝓡 : Running 𝓤 H 𝓜) (S S′ : Signature)
-    (c : (A : Atoms 𝓤) → (Memory → SProp 𝓤) → (Routine → Fun 𝓤) → Spec 𝓤 S) (c′ : (A : Atoms 𝓤) → (Memory → SProp 𝓤) → (Routine → Fun 𝓤) → Spec 𝓤 S′)
+module _ {M : Type 1} (𝓤 : URA M) (H : Heap 𝓤) (𝓜 : Model 𝓤 H) (𝓖 : GhostRules 𝓤 H) (𝓡 : Running 𝓤 H 𝓜)
+    (S S′ : Signature)
+    (c : (A : Atoms 𝓤) → (Memory → SProp 𝓤) → (Routine → Fun 𝓤) → Spec 𝓤 S)
+    (c′ : (A : Atoms 𝓤) → (Memory → SProp 𝓤) → (Routine → Fun 𝓤) → Spec 𝓤 S′)
   where
     pub concluded : (env : Env) (key : Name) (fn : Fn) → Closed 𝓤 H (tables 𝓤 H 𝓜 𝓡 env .C) (tables 𝓤 H 𝓜 𝓡 env .Λ) key fn
         → (callee : Name) (r : Routine) → env callee ≡ r → Meets 𝓤 H (𝓖 .A) S′ (𝓡 .run r) (c′ (𝓖 .A) (𝓜 .mem) (𝓡 .run))
@@ -230,5 +244,7 @@ module _ {M : Type 1} (𝓤 : URA M) (H : Heap 𝓤) (𝓜 : Model 𝓤 H) (𝓖
         → Meets 𝓤 H (𝓖 .A) S (𝓡 .run (env key)) (c (𝓖 .A) (𝓜 .mem) (𝓡 .run))
     unfolding tablesOf
     concluded env key fn unfolded callee r calls met meets =
-        entered 𝓤 H (tripleOf 𝓤 H (𝓖 .A) S (c (𝓖 .A) (𝓜 .mem) (𝓡 .run))) (tables 𝓤 H 𝓜 𝓡 env .C) (tables 𝓤 H 𝓜 𝓡 env .Λ) key fn unfolded
-        (meets (tablesOf 𝓤 H 𝓜 (tables 𝓤 H 𝓜 𝓡 env)) (cited 𝓤 H (tripleOf 𝓤 H (𝓖 .A) S′ (c′ (𝓖 .A) (𝓜 .mem) (𝓡 .run))) 𝓜 𝓡 env callee r calls met))
+        entered 𝓤 H (tripleOf 𝓤 H (𝓖 .A) S (c (𝓖 .A) (𝓜 .mem) (𝓡 .run))) (tables 𝓤 H 𝓜 𝓡 env .C)
+        (tables 𝓤 H 𝓜 𝓡 env .Λ) key fn unfolded
+        (meets (tablesOf 𝓤 H 𝓜 (tables 𝓤 H 𝓜 𝓡 env))
+        (cited 𝓤 H (tripleOf 𝓤 H (𝓖 .A) S′ (c′ (𝓖 .A) (𝓜 .mem) (𝓡 .run))) 𝓜 𝓡 env callee r calls met))

@@ -283,7 +283,8 @@ on-fields (vfloat f x) k z g = absurd z
 on-fields (vptr b o) k z g = absurd z
 on-fields (vstruct vs) k z g = g vs refl z
 
-on-struct : (τ : Ty) (k : Sym → Tys → Type 0) → OnStruct τ k → {G : Type 1} → ((ν : Sym) (τs : Tys) → τ ≡ tyStruct ν τs → k ν τs → G) → G
+on-struct : (τ : Ty) (k : Sym → Tys → Type 0) → OnStruct τ k → {G : Type 1}
+    → ((ν : Sym) (τs : Tys) → τ ≡ tyStruct ν τs → k ν τs → G) → G
 on-struct (tyInt w) k z g = absurd z
 on-struct tyBool k z g = absurd z
 on-struct (tyFloat f) k z g = absurd z
@@ -300,7 +301,8 @@ on-result (place zero []) X z G g = g z
 on-result (place zero (s ∷ st)) X z G g = absurd z
 on-result (place (suc j) st) X z G g = absurd z
 
-on-return : (b : Body) (X : Type 0) → OnReturn b X → (G : Body → Type 1) → ((b : Body) → G return → G (seq return b)) → (X → G return) → G b
+on-return : (b : Body) (X : Type 0) → OnReturn b X → (G : Body → Type 1) → ((b : Body) → G return → G (seq return b)) → (X → G return)
+    → G b
 on-return skip X z G h g = absurd z
 on-return (seq skip b) X z G h g = absurd z
 on-return (seq (seq a a′) b) X z G h g = absurd z
@@ -380,7 +382,8 @@ module _ {M : Type 1} (𝓤 : URA M) (H : Heap 𝓤) (A : Atoms 𝓤) where
       let d = H .dies (e .0) (e .1) in
       let Γ = held E (cs .1) in
       via 𝓤 (sep 𝓤 (sep 𝓤 c d) (⋆ 𝓤 H A Γ)) (monoR 𝓤 (sep 𝓤 c d) (to-held E (cs .1)))
-      (via 𝓤 (sep 𝓤 c (sep 𝓤 d (⋆ 𝓤 H A Γ))) (assoc∗ 𝓤 c d (⋆ 𝓤 H A Γ)) (monoR 𝓤 c (push 𝓤 H A (‵ (fdies (e .0) (e .1))) Γ)))
+      (via 𝓤 (sep 𝓤 c (sep 𝓤 d (⋆ 𝓤 H A Γ))) (assoc∗ 𝓤 c d (⋆ 𝓤 H A Γ))
+      (monoR 𝓤 c (push 𝓤 H A (‵ (fdies (e .0) (e .1))) Γ)))
 
   from-held : (E : Frame) (cs : Cells E) → ent 𝓤 (⋆ 𝓤 H A (held E cs)) (own E cs)
   from-held [] cs = id⊢ 𝓤 (emp 𝓤)
@@ -401,7 +404,8 @@ module _ {M : Type 1} (𝓤 : URA M) (H : Heap 𝓤) (A : Atoms 𝓤) where
   is-room x none z = refl
   is-room x (some v) z = absurd z
 
-  at-free : (E : Frame) (cs : Cells E) (i : ℕ) → T (freeAt E cs i) → nth 𝓤 H A (pos i) (held E cs) ≡ ‵ (froom (tyAt E i) (blockAt E i) zero)
+  at-free : (E : Frame) (cs : Cells E) (i : ℕ) → T (freeAt E cs i)
+      → nth 𝓤 H A (pos i) (held E cs) ≡ ‵ (froom (tyAt E i) (blockAt E i) zero)
   at-free [] cs i z = absurd z
   at-free (x ∷ E) cs zero z = is-room x (cs .0) z
   at-free (x ∷ E) cs (suc i) z = at-free E (cs .1) i z
@@ -428,14 +432,17 @@ module _ {M : Type 1} (𝓤 : URA M) (H : Heap 𝓤) (A : Atoms 𝓤) where
 
       module _ (ws : AllWT E cs) where
         field-go : (i n : ℕ) (k : Val → Type 0) → InField E cs i n k → {G : Type 1}
-            → ((v : Val) → WT v → (τ : Ty) (d : ℕ) → fieldOf (tyAt E i) n ≡ some (τ, d) → ReadsAt τ (blockAt E i) (zero + d) v → k v → G) → G
-        field-go i n k x g = on-some (valOf E cs i) _ x (λ v e x₁. on-fields v _ x₁ (λ vs ev x₂. on-struct (tyAt E i) _ x₂ (λ ν τs eτ x₃.
+            → ((v : Val) → WT v → (τ : Ty) (d : ℕ) → fieldOf (tyAt E i) n ≡ some (τ, d) → ReadsAt τ (blockAt E i) (zero + d) v
+            → k v → G) → G
+        field-go i n k x g = on-some (valOf E cs i) _ x
+            (λ v e x₁. on-fields v _ x₁ (λ vs ev x₂. on-struct (tyAt E i) _ x₂ (λ ν τs eτ x₃.
             on-some (fieldAt zero τs n) _ x₃ (λ f ef x₄.
             let is : nth 𝓤 H A (pos i) (held E cs) ≡ ‵ (fat fullShare (tyStruct ν τs) (blockAt E i) zero (vstruct vs)) =
             at-val E cs i v e ∙ (ap (λ (u : Val). ‵ (fat fullShare (tyAt E i) (blockAt E i) zero u)) ev
             ∙ ap (λ (τ : Ty). ‵ (fat fullShare τ (blockAt E i) zero (vstruct vs))) eτ) in
             g (getV vs n) (wt-get vs n (subst WT ev (wt-at E cs i v ws e))) (f .0) (f .1) (ap (λ (τ : Ty). fieldOf τ n) eτ ∙ ef)
-            (look-in ! (suc (pos i)) (sub ! n ef (subst (λ (j : Item 𝓤). Part (Go {0}) W j fullShare (tyStruct ν τs) (blockAt E i) zero (vstruct vs)
+            (look-in ! (suc (pos i))
+            (sub ! n ef (subst (λ (j : Item 𝓤). Part (Go {0}) W j fullShare (tyStruct ν τs) (blockAt E i) zero (vstruct vs)
             (λ u. ‵ (fat fullShare (tyStruct ν τs) (blockAt E i) zero u))) (sym is) (whole !)))) x₄))))
 
         place-go : (i : ℕ) (st : List PStep) (k : Val → Type 0) → AtPlace E cs i st k → {G : Type 1}
@@ -446,7 +453,8 @@ module _ {M : Type 1} (𝓤 : URA M) (H : Heap 𝓤) (A : Atoms 𝓤) where
         place-go i (field n ∷ s ∷ st) k x g = absurd x
         place-go i (variant n ∷ st) k x g = absurd x
 
-        opd-go : (x : Operand) (k : Val → Type 0) → OkOpd E cs x k → {G : Type 1} → ((v : Val) → WT v → Opd (Go {0}) W Γ E x v → k v → G) → G
+        opd-go : (x : Operand) (k : Val → Type 0) → OkOpd E cs x k → {G : Type 1}
+            → ((v : Val) → WT v → Opd (Go {0}) W Γ E x v → k v → G) → G
         opd-go (copy (place i st)) k x g = place-go i st k x g
         opd-go (int w n) k x g = absurd x
         opd-go (intNeg w n) k x g = absurd x
@@ -474,7 +482,8 @@ module _ {M : Type 1} (𝓤 : URA M) (H : Heap 𝓤) (A : Atoms 𝓤) where
         address-go : (i : ℕ) (st : List PStep) (k : Val → Type 0) → Address E cs i st k → {G : Type 1}
             → ((v : Val) → WT v → Rv (Go {0}) W Γ E (addrOf (place i st)) v → k v → G) → G
         address-go i [] k x g = absurd x
-        address-go i (deref τ ∷ st) k x g = on-some (valOf E cs i) _ x (λ v e y. on-ptr v _ y (λ b o ev z. down-go st τ b o _ z (λ τ′ o′ w u.
+        address-go i (deref τ ∷ st) k x g = on-some (valOf E cs i) _ x
+            (λ v e y. on-ptr v _ y (λ b o ev z. down-go st τ b o _ z (λ τ′ o′ w u.
             g (vptr b o′) tt (addr ! (from ! (hop ! (reads-at i (vptr b o) (e ∙ ap some ev)) w))) u)))
         address-go i (field n ∷ []) k x g = absurd x
         address-go i (field n ∷ deref τ ∷ st) k x g = field-go i n _ x (λ v wv τ₀ d e r y. on-ptr v _ y (λ b o ev z.
@@ -484,7 +493,8 @@ module _ {M : Type 1} (𝓤 : URA M) (H : Heap 𝓤) (A : Atoms 𝓤) where
         address-go i (field n ∷ variant m ∷ st) k x g = absurd x
         address-go i (variant n ∷ st) k x g = absurd x
 
-        rv-go : (r : RValue) (k : Val → Type 0) → OkRv E cs r k → {G : Type 1} → ((v : Val) → WT v → Rv (Go {0}) W Γ E r v → k v → G) → G
+        rv-go : (r : RValue) (k : Val → Type 0) → OkRv E cs r k → {G : Type 1} → ((v : Val) → WT v → Rv (Go {0}) W Γ E r v → k v → G)
+            → G
         rv-go (rvOpd o) k x g = opd-go o k x (λ v w read y. g v w (of-opd ! read) y)
         rv-go (op2 o a b) k x g = absurd x
         rv-go (op1 o a) k x g = absurd x
@@ -500,7 +510,8 @@ module _ {M : Type 1} (𝓤 : URA M) (H : Heap 𝓤) (A : Atoms 𝓤) where
     free : (E : Frame) (cs : Cells E) (R : SProp 𝓤) → ent 𝓤 (sep 𝓤 R (own E cs)) (release 𝓤 H E R)
     free [] cs R = fst∗ 𝓤 R (emp 𝓤)
     free (x ∷ E) cs R =
-        qed W (raw R ∷ (((cell x (cs .0)) ⊛ ‵ (fdies (x .0) (x .1))) ⊛ raw (own E (cs .1))) ∷ []) ∵ move ! (1 ∷ []) $ split ! $ split ! $
+        qed W (raw R ∷ (((cell x (cs .0)) ⊛ ‵ (fdies (x .0) (x .1))) ⊛ raw (own E (cs .1))) ∷ []) ∵ move ! (1 ∷ []) $ split ! $ split !
+        $
         use1 W (‵ (froom (x .0) (x .1) zero)) (cell-room x (cs .0)) $ join ! $ frame ! $ move ! (1 ∷ []) $ by ! (free E (cs .1) R)
 
     -- each argument is stored
@@ -520,7 +531,8 @@ module _ {M : Type 1} (𝓤 : URA M) (H : Heap 𝓤) (A : Atoms 𝓤) where
 
     -- all locals are allocated
     make-all : (ls : List Local) (R : SProp 𝓤) (G : Env 𝓤 H → SProp 𝓤)
-        → ((bs : Blocks ls) → ent 𝓤 (sep 𝓤 R (own (frameOf ls bs) (empty (frameOf ls bs)))) (G (frameOf ls bs))) → ent 𝓤 R (alloc 𝓤 H ls G)
+        → ((bs : Blocks ls) → ent 𝓤 (sep 𝓤 R (own (frameOf ls bs) (empty (frameOf ls bs)))) (G (frameOf ls bs)))
+        → ent 𝓤 R (alloc 𝓤 H ls G)
     make-all [] R G h = via 𝓤 (sep 𝓤 R (emp 𝓤)) (via 𝓤 (sep 𝓤 (emp 𝓤) R) (emp∗ 𝓤 R) (comm∗ 𝓤 (emp 𝓤) R)) (h tt)
     make-all (local τ z ∷ ls) R G h = allI 𝓤 _ (λ b.
         let c = sep 𝓤 (H .room τ b zero) (H .dies τ b) in
@@ -537,7 +549,8 @@ module _ {M : Type 1} (𝓤 : URA M) (H : Heap 𝓤) (A : Atoms 𝓤) where
       Calls-it f′ us′ = (f′ ≡ f) × (us′ ≡ us)
 
       -- the call, and the return of its result
-      call-go : (E : Frame) (cs : Cells E) → AllWT E cs → Fits E → T (freeAt E cs zero) → (g : Name) (xs : List Operand) → OkOpds E cs xs (Calls-it g)
+      call-go : (E : Frame) (cs : Cells E) → AllWT E cs → Fits E → T (freeAt E cs zero) → (g : Name) (xs : List Operand)
+          → OkOpds E cs xs (Calls-it g)
           → Sq W (raw P ∷ held E cs) (runs C Λ E (seq (call g xs (place zero [])) return) (atRet E Q))
       call-go E cs ws fits room g xs x =
           let here : ent 𝓤 P (H .⇛ (C f us Q)) = met in
@@ -564,7 +577,8 @@ module _ {M : Type 1} (𝓤 : URA M) (H : Heap 𝓤) (A : Atoms 𝓤) where
           let t = on-true (freeAt E cs j) _ y in
           let s = on-true (hasTy (tyAt E j) v) _ (t .1) in
           assigns ! value (from ! (stop !)) (init ! (suc (pos j)) (at-free E cs j (t .0)) (s .0, w)) $
-          recontext (ap (λ (Δ : List (Item 𝓤)). raw P ∷ Δ) (put-val E cs j v)) (run-go E fits b (setAt E cs j v) (wt-set E cs j v ws w) (s .1)))
+          recontext (ap (λ (Δ : List (Item 𝓤)). raw P ∷ Δ) (put-val E cs j v))
+          (run-go E fits b (setAt E cs j v) (wt-set E cs j v ws w) (s .1)))
       run-go E fits (seq (assign (place j (z ∷ st)) r) b) cs ws x = absurd x
       run-go E fits (seq (block a) b) cs ws x = absurd x
       run-go E fits (seq (loop a) b) cs ws x = absurd x

@@ -20,7 +20,8 @@ use prog.Wp.{Heap}
 use ghost.Atoms.{Atoms, sem}
 use contract.Lifetimes.{Lfts, Shares, AllOutlive}
 use contract.Monad.{Fun}
-use types.Kit.{Given, ‵, raw, _⊛_, some, later, given, ⋆, _$_, _∵_, !, qed, by, move, keep, use1, use2, use3, drop, split, join, pick, learn, check}
+use types.Kit.{Given, ‵, raw, _⊛_, some, later, given, ⋆, _$_, _∵_, !, qed}
+use types.Kit.{by, move, keep, use1, use2, use3, drop, split, join, pick, learn, check}
 use types.Kit.{fsplit, fsplit3, fjoin, await, updating, now as at-once, show, frame, done}
 use types.SemTy.{Body}
 use types.Mut.{open-ref, close-ref}
@@ -94,7 +95,8 @@ module _ (b o : ℕ) where
     abbrev pub ownss : (ps : List Part) → Values ps → Names ps → Fml → Fml
     ownss [] a γs B = B
     ownss (p ∷ ps) a γs B =
-        fsep (MutRef ℓ κ (p .row) .own (record { ptr = (b, p .at o); name = γs .0; now = a .0 }) (vptr b (p .at o) ∷ [])) (ownss ps (a .1) (γs .1) B)
+        fsep (MutRef ℓ κ (p .row) .own (record { ptr = (b, p .at o); name = γs .0; now = a .0 }) (vptr b (p .at o) ∷ []))
+        (ownss ps (a .1) (γs .1) B)
 
     abbrev loans : (ps : List Part) → Names ps → Fml
     loans [] γs = ftrue
@@ -115,12 +117,14 @@ module _ (b o : ℕ) where
           use2 W (later (some (λ (γs : Names ps). ‵ (ownss ps (a .1) γs B) ⊛ ‵ (loans ps γs)))) (lends-all ps (a .1) B) $
           await ! tt $ pick ! (λ γs. split ! $
           -- [the other references; the other loans; the first reference; the first loan]
-          at-once ! $ show ! (Lent (p ∷ ps) a B) (γ, γs) $ move ! (2 ∷ 0 ∷ []) $ fjoin ! $ frame ! $ move ! (1 ∷ 0 ∷ []) $ fjoin ! $ done !))
+          at-once ! $ show ! (Lent (p ∷ ps) a B) (γ, γs) $ move ! (2 ∷ 0 ∷ []) $ fjoin ! $ frame ! $ move ! (1 ∷ 0 ∷ []) $ fjoin ! $ done
+          !))
 
       all-back : (ps : List Part) (γs : Names ps) (Y : Type 0) (F : Y → Fml) (zs : Lasts ps Y)
           → ent 𝓤 (sep 𝓤 (A .dead κ) (sep 𝓤 (sem 𝓤 H A (loans ps γs)) (sem 𝓤 H A (saids ps γs Y F zs))))
           (H .⇛ (sep 𝓤 (sem 𝓤 H A (lie fullShare ps (firsts ps Y zs))) (sem 𝓤 H A (F (lastly ps Y zs)))))
-      all-back [] γs Y F zs = qed W (‵ (fdead κ) ∷ ‵ ftrue ∷ ‵ (F zs) ∷ []) ∵ updating ! $ at-once ! $ keep ! (1 ∷ 2 ∷ []) $ done !
+      all-back [] γs Y F zs = qed W (‵ (fdead κ) ∷ ‵ ftrue ∷ ‵ (F zs) ∷ []) ∵ updating ! $ at-once ! $ keep ! (1 ∷ 2 ∷ []) $ done
+          !
       all-back (p ∷ ps) γs Y F zs =
           qed W (‵ (fdead κ) ∷ ‵ (loans (p ∷ ps) γs) ∷ ‵ (saids (p ∷ ps) γs Y F zs) ∷ []) ∵ updating ! $
           use1 W (‵ (fdead κ) ⊛ ‵ (fdead κ)) (W .lfts .dead-dup κ) $ split ! $ move ! (2 ∷ []) $ fsplit ! $ move ! (4 ∷ []) $ fsplit ! $
@@ -158,7 +162,8 @@ module _ {M : Type 1} (𝓤 : URA M) (H : Heap 𝓤) (A : Atoms 𝓤) (W : Given
           (λ r ws. ensures r (ws .0) (ws .1))
 
       abbrev over-parts : ℕ → Names ps → Val → SProp 𝓤
-      over-parts ν γs = After (A .lft (ν ∷ []) fullShare) (Lasts ps Y) (saids ps γs Y F) (λ r zs. ensures r (S .of (firsts ps Y zs)) (lastly ps Y zs))
+      over-parts ν γs = After (A .lft (ν ∷ []) fullShare) (Lasts ps Y) (saids ps γs Y F)
+          (λ r zs. ensures r (S .of (firsts ps Y zs)) (lastly ps Y zs))
 
       abbrev Kept : ℕ → Names ps → SProp 𝓤
       Kept ν γs = ⋆ 𝓤 H A (‵ (loans b o ℓ′ (ν ∷ []) ps γs) ∷ raw (S .Rejoins b o) ∷ ‵ (fobor κ q (Body (mem row) b o γ))
@@ -182,25 +187,30 @@ module _ {M : Type 1} (𝓤 : URA M) (H : Heap 𝓤) (A : Atoms 𝓤) (W : Given
           show ! (Left (A .lft κ q) (row .Denot × Y) (λ ws. fsep (fres γ (row .coded .code (ws .0))) (F (ws .1)))
           (λ r′ ws. ensures r′ (ws .0) (ws .1)) v) r $
           move ! (2 ∷ 4 ∷ []) $ join ! $ move ! (0 ∷ 4 ∷ []) $ join ! $ frame ! $
-          show ! (λ (ws : row .Denot × Y). sep 𝓤 (sem 𝓤 H A (fsep (fres γ (row .coded .code (ws .0))) (F (ws .1)))) (ensures r (ws .0) (ws .1)))
+          show !
+          (λ (ws : row .Denot × Y). sep 𝓤 (sem 𝓤 H A (fsep (fres γ (row .coded .code (ws .0))) (F (ws .1)))) (ensures r (ws .0) (ws .1)))
           (g′, lastly ps Y zs) $ move ! (0 ∷ 2 ∷ []) $ fjoin ! $ keep ! (0 ∷ 2 ∷ []) $ done !))
 
       -- run is a call, which meets its contract whatever names the references have
       pub lends-to : (run : (Val → SProp 𝓤) → SProp 𝓤)
-          → ((K K′ : Val → SProp 𝓤) (R : SProp 𝓤) → ((v : Val) → ent 𝓤 (sep 𝓤 (K v) R) (K′ v)) → ent 𝓤 (sep 𝓤 (run K) R) (run K′))
+          → ((K K′ : Val → SProp 𝓤) (R : SProp 𝓤) → ((v : Val) → ent 𝓤 (sep 𝓤 (K v) R) (K′ v))
+          → ent 𝓤 (sep 𝓤 (run K) R) (run K′))
           → ((ν : ℕ) (γs : Names ps) → ent 𝓤 (sep 𝓤 (sep 𝓤 (sep 𝓤 (A .lft (ν ∷ []) fullShare) Others)
           (sem 𝓤 H A (ownss b o ℓ′ (ν ∷ []) ps (S .parts g) γs B))) Asked) (run (over-parts ν γs)))
           → ent 𝓤 (sep 𝓤 (sep 𝓤 (sep 𝓤 (A .lft κ q) Others)
           (sem 𝓤 H A (fsep (MutRef ℓ κ row .own (record { ptr = (b, o); name = γ; now = g }) (vptr b o ∷ [])) B))) Asked)
           (H .⇛ (run over-struct))
       lends-to run framed known =
-          qed W (((‵ (flft κ q) ⊛ raw Others) ⊛ ‵ (fsep (MutRef ℓ κ row .own (record { ptr = (b, o); name = γ; now = g }) (vptr b o ∷ [])) B))
-          ∷ raw Asked ∷ []) ∵ updating ! $ split ! $ split ! $ move ! (2 ∷ []) $ fsplit ! $ fsplit3 ! $ drop ! $ move ! (0 ∷ 1 ∷ 3 ∷ []) $
+          qed W (((‵ (flft κ q) ⊛ raw Others) ⊛ ‵
+          (fsep (MutRef ℓ κ row .own (record { ptr = (b, o); name = γ; now = g }) (vptr b o ∷ [])) B))
+          ∷ raw Asked ∷ []) ∵ updating ! $ split ! $ split ! $ move ! (2 ∷ []) $ fsplit ! $ fsplit3 ! $ drop ! $ move ! (0 ∷ 1 ∷ 3 ∷ [])
+          $
           open-ref ! tt (mem row) {b = b} {o = o} $
           use1 W (‵ (lie b o fullShare ps (S .parts g)) ⊛ raw (S .Rejoins b o)) (S .apart g b o) $ split ! $
           -- [the parts; the way back; the open borrow; obs; auth; B; the other tokens; what is asked]
           lft-new ! tt (λ ν. move ! (1 ∷ 6 ∷ []) $
-          use2 W (later (some (λ (γs : Names ps). ‵ (ownss b o ℓ′ (ν ∷ []) ps (S .parts g) γs B) ⊛ ‵ (loans b o ℓ′ (ν ∷ []) ps γs))))
+          use2 W (later
+          (some (λ (γs : Names ps). ‵ (ownss b o ℓ′ (ν ∷ []) ps (S .parts g) γs B) ⊛ ‵ (loans b o ℓ′ (ν ∷ []) ps γs))))
           (lends-all b o ℓ′ (ν ∷ []) 𝓤 H A W ps (S .parts g) B) $ await ! tt $ pick ! (λ γs. split ! $
           -- [what is passed; the loans; the lifetime; the way back; the open borrow; obs; auth; the other tokens; what is asked]
           move ! (2 ∷ 7 ∷ []) $ join ! $ join ! $ move ! (0 ∷ 6 ∷ []) $ use2 W (raw (run (over-parts ν γs))) (known ν γs) $ at-once ! $

@@ -193,7 +193,8 @@ module _ (t : Share) (b o : ℕ) where
         qed W (‵ (chosen (true ∷ cs) (p ∷ ps) a) ∷ ‵ (left cs ps (a .1)) ∷ []) ∵ fsplit ! $ move ! (1 ∷ 2 ∷ []) $
         use2 W (‵ (lie b o t ps (a .1))) (unites cs ps (a .1)) $ move ! (1 ∷ 0 ∷ []) $ fjoin ! $ done !
     unites (false ∷ cs) (p ∷ ps) a =
-        qed W (‵ (chosen cs ps (a .1)) ∷ ‵ (left (false ∷ cs) (p ∷ ps) a) ∷ []) ∵ move ! (1 ∷ []) $ fsplit ! $ move ! (2 ∷ 1 ∷ []) $
+        qed W (‵ (chosen cs ps (a .1)) ∷ ‵ (left (false ∷ cs) (p ∷ ps) a) ∷ []) ∵ move ! (1 ∷ []) $ fsplit ! $ move ! (2 ∷ 1 ∷ [])
+        $
         use2 W (‵ (lie b o t ps (a .1))) (unites cs ps (a .1)) $ move ! (1 ∷ 0 ∷ []) $ fjoin ! $ done !
 
 -- ---- a struct of simple fields; `free`: its ghost fields, if it has any, hold of all values
@@ -254,7 +255,8 @@ module _ (S : Flat) where
       Back = Again t type b o 𝓤 H A
 
       -- one way and the other, what is shown of the fields is turned into the parts, and into the struct as it is declared
-      turned : (d : X) (K : SProp 𝓤 → SProp 𝓤 → Type 1) → K (sem 𝓤 H A (joined t type b o (fields d))) (sem 𝓤 H A (fieldsIn t type b o (fields d)))
+      turned : (d : X) (K : SProp 𝓤 → SProp 𝓤 → Type 1)
+          → K (sem 𝓤 H A (joined t type b o (fields d))) (sem 𝓤 H A (fieldsIn t type b o (fields d)))
           → K (Whole d) (Parted (valuesOf d))
       turned d K k =
           subst (λ (F : Fml). K (sem 𝓤 H A F) (Parted (valuesOf d))) (sym (struct-same t d b o))
@@ -270,7 +272,8 @@ module _ (S : Flat) where
       rejoin d = turned d (λ P Q. ent 𝓤 (sep 𝓤 Q Back) P) (together t type b o 𝓤 H A (fields d))
 
       pub rejoin-by : (a : Values partsOf) → ent 𝓤 (sep 𝓤 (Parted a) Back) (Whole (structBy a))
-      rejoin-by a = subst (λ (a′ : Values partsOf). ent 𝓤 (sep 𝓤 (Parted a′) Back) (Whole (structBy a))) (values-by a) (rejoin (structBy a))
+      rejoin-by a = subst (λ (a′ : Values partsOf). ent 𝓤 (sep 𝓤 (Parted a′) Back) (Whole (structBy a))) (values-by a)
+          (rejoin (structBy a))
 
     abbrev pub opens : Opens 𝓤 H A rowBy partsOf
     opens = record {
@@ -291,7 +294,8 @@ module _ (S : Flat) where
       some-apart t d b o =
           qed W (‵ (partAt rowBy t d b o) ∷ []) ∵
           use1 W (‵ (lie b o t partsOf (valuesOf d)) ⊛ raw (Back t b o)) (apart t b o d) $ split ! $
-          use1 W (‵ (some t b o d) ⊛ ‵ (left t b o cs partsOf (valuesOf d))) (chooses t b o 𝓤 H A W cs partsOf (valuesOf d)) $ split ! $ frame ! $
+          use1 W (‵ (some t b o d) ⊛ ‵ (left t b o cs partsOf (valuesOf d))) (chooses t b o 𝓤 H A W cs partsOf (valuesOf d)) $ split ! $
+          frame ! $
           -- [those that are left; the way back]
           assume ! (‵ (some t b o d)) $ use2 W (‵ (lie b o t partsOf (valuesOf d))) (unites t b o 𝓤 H A W cs partsOf (valuesOf d)) $
           use2 W (‵ (partAt rowBy t d b o)) (rejoin t b o d) $ done !

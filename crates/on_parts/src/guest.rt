@@ -19,7 +19,8 @@ pub fn start_get_flags<'a>(
     page: &mut [u8],
 ) -> u32
     requires { ⌜ Good (guestIn (now numbers) (now request) (now header) (now payload)) ⌝ }
-    ensures { λ r. ⌜ Leaves (startOf getFlagsMessage (guestIn (now (numbers .entry)) (now (request .entry)) (now (header .entry)) (now (payload .entry))) (now (page .entry)))
+    ensures { λ r. ⌜ Leaves (startOf getFlagsMessage
+        (guestIn (now (numbers .entry)) (now (request .entry)) (now (header .entry)) (now (payload .entry))) (now (page .entry)))
         r (guestIn (now (numbers .exit)) (now (request .exit)) (now (header .exit)) (now (payload .exit))) (now (page .exit))
         × Good (guestIn (now (numbers .exit)) (now (request .exit)) (now (header .exit)) (now (payload .exit))) ⌝ }
 {
@@ -48,7 +49,8 @@ pub fn start_set_flags<'a>(
     flags: u64,
 ) -> u32
     requires { ⌜ Good (guestIn (now numbers) (now request) (now header) (now payload)) ⌝ }
-    ensures { λ r. ⌜ Leaves (startOf (setFlagsMessage flags) (guestIn (now (numbers .entry)) (now (request .entry)) (now (header .entry)) (now (payload .entry))) (now (page .entry)))
+    ensures { λ r. ⌜ Leaves (startOf (setFlagsMessage flags)
+        (guestIn (now (numbers .entry)) (now (request .entry)) (now (header .entry)) (now (payload .entry))) (now (page .entry)))
         r (guestIn (now (numbers .exit)) (now (request .exit)) (now (header .exit)) (now (payload .exit))) (now (page .exit))
         × Good (guestIn (now (numbers .exit)) (now (request .exit)) (now (header .exit)) (now (payload .exit))) ⌝ }
 {
@@ -77,7 +79,8 @@ pub fn start_set_key<'a>(
     key: &[u8],
 ) -> u32
     requires { ⌜ Good (guestIn (now numbers) (now request) (now header) (now payload)) ⌝ }
-    ensures { λ r. ⌜ Leaves (startOf (setKeyMessage (now (key .entry))) (guestIn (now (numbers .entry)) (now (request .entry)) (now (header .entry)) (now (payload .entry))) (now (page .entry)))
+    ensures { λ r. ⌜ Leaves (startOf (setKeyMessage (now (key .entry)))
+        (guestIn (now (numbers .entry)) (now (request .entry)) (now (header .entry)) (now (payload .entry))) (now (page .entry)))
         r (guestIn (now (numbers .exit)) (now (request .exit)) (now (header .exit)) (now (payload .exit))) (now (page .exit))
         × Good (guestIn (now (numbers .exit)) (now (request .exit)) (now (header .exit)) (now (payload .exit))) ⌝ }
 {
@@ -105,7 +108,8 @@ pub fn start_set_mapping<'a>(
     entries: &[u64],
 ) -> u32
     requires { ⌜ Good (guestIn (now numbers) (now request) (now header) (now payload)) ⌝ }
-    ensures { λ r. ⌜ Leaves (startOf (setMappingMessage (now (entries .entry))) (guestIn (now (numbers .entry)) (now (request .entry)) (now (header .entry)) (now (payload .entry))) (now (page .entry)))
+    ensures { λ r. ⌜ Leaves (startOf (setMappingMessage (now (entries .entry)))
+        (guestIn (now (numbers .entry)) (now (request .entry)) (now (header .entry)) (now (payload .entry))) (now (page .entry)))
         r (guestIn (now (numbers .exit)) (now (request .exit)) (now (header .exit)) (now (payload .exit))) (now (page .exit))
         × Good (guestIn (now (numbers .exit)) (now (request .exit)) (now (header .exit)) (now (payload .exit))) ⌝ }
 {
@@ -134,12 +138,15 @@ pub fn guest_event<'a>(
     flags: &mut u32,
 ) -> u32
     requires { ⌜ Good (guestIn (now numbers) (now request) (now header) (now payload)) ⌝ }
-    ensures { λ r. ⌜ Leaves (eventOf (guestIn (now (numbers .entry)) (now (request .entry)) (now (header .entry)) (now (payload .entry))) (now (page .entry)))
+    ensures { λ r. ⌜ Leaves
+        (eventOf (guestIn (now (numbers .entry)) (now (request .entry)) (now (header .entry)) (now (payload .entry))) (now (page .entry)))
         r (guestIn (now (numbers .exit)) (now (request .exit)) (now (header .exit)) (now (payload .exit))) (now (page .exit))
         × Good (guestIn (now (numbers .exit)) (now (request .exit)) (now (header .exit)) (now (payload .exit))) ⌝ }
-    ensures { λ _. ⌜ now (status .exit) ≡ statusOfTold (eventOf (guestIn (now (numbers .entry)) (now (request .entry)) (now (header .entry)) (now (payload .entry))) (now (page .entry)) .answer)
+    ensures { λ _. ⌜ now (status .exit) ≡ statusOfTold
+        (eventOf (guestIn (now (numbers .entry)) (now (request .entry)) (now (header .entry)) (now (payload .entry))) (now (page .entry)) .answer)
         (now (status .entry)) ⌝ }
-    ensures { λ _. ⌜ now (flags .exit) ≡ flagsOfTold (eventOf (guestIn (now (numbers .entry)) (now (request .entry)) (now (header .entry)) (now (payload .entry))) (now (page .entry)) .answer)
+    ensures { λ _. ⌜ now (flags .exit) ≡ flagsOfTold
+        (eventOf (guestIn (now (numbers .entry)) (now (request .entry)) (now (header .entry)) (now (payload .entry))) (now (page .entry)) .answer)
         (now (flags .entry)) ⌝ }
 {
     let answer = frontend::event(numbers, request, header, payload, page);

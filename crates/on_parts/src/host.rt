@@ -23,7 +23,8 @@ pub fn set_up<'a>(
 ) -> u32
     ensures { λ r. ⌜ (r ≡ numberOf (setUpOutcome queues))
         × (interfaceIn (now (numbers .exit)) (now (header .exit)) (now (payload .exit)) (now (ack .exit)) (now (key .exit)) (now (entries .exit))
-        ≡ placed itself (setUpOutcome queues) (interfaceIn (now (numbers .entry)) (now (header .entry)) (now (payload .entry)) (now (ack .entry)) (now (key .entry)) (now (entries .entry)))) ⌝ }
+        ≡ placed itself (setUpOutcome queues) (interfaceIn (now (numbers .entry)) (now (header .entry)) (now (payload .entry)) (now (ack .entry))
+        (now (key .entry)) (now (entries .entry)))) ⌝ }
 {
     let answer = backend::set_up(numbers, header, payload, ack, key, entries, queues);
     by_number::set_up_number(answer)
@@ -40,9 +41,12 @@ pub fn event<'a>(
     page: &mut [u8],
 ) -> u32
     requires { ⌜ Good (interfaceIn (now numbers) (now header) (now payload) (now ack) (now key) (now entries)) ⌝ }
-    ensures { λ r. ⌜ (left r (interfaceIn (now (numbers .exit)) (now (header .exit)) (now (payload .exit)) (now (ack .exit)) (now (key .exit)) (now (entries .exit))) (now (page .exit))
-        ≡ eventOf (interfaceIn (now (numbers .entry)) (now (header .entry)) (now (payload .entry)) (now (ack .entry)) (now (key .entry)) (now (entries .entry))) (now (page .entry)))
-        × Good (interfaceIn (now (numbers .exit)) (now (header .exit)) (now (payload .exit)) (now (ack .exit)) (now (key .exit)) (now (entries .exit))) ⌝ }
+    ensures { λ r. ⌜ (left r (interfaceIn (now (numbers .exit)) (now (header .exit)) (now (payload .exit)) (now (ack .exit)) (now (key .exit))
+        (now (entries .exit))) (now (page .exit))
+        ≡ eventOf (interfaceIn (now (numbers .entry)) (now (header .entry)) (now (payload .entry)) (now (ack .entry)) (now (key .entry))
+        (now (entries .entry))) (now (page .entry)))
+        × Good (interfaceIn (now (numbers .exit)) (now (header .exit)) (now (payload .exit)) (now (ack .exit)) (now (key .exit))
+        (now (entries .exit))) ⌝ }
 {
     let answer = backend::event(numbers, header, payload, ack, key, entries, page);
     by_number::event_number(answer)

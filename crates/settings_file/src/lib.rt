@@ -186,7 +186,8 @@ fn carry_out_first(settings: Held, file: &[u8]) -> First
 
 // Carries out a message of which this payload is kept. The library changes the key and the entries that it is lent, here copies.
 fn carry_out(settings: Held, kind: u32, size: u32, payload: &[u8; MAX_PAYLOAD]) -> Acked
-    ensures { λ r. ⌜ LeavesAcked (carriedOut (settingsHeld settings) kind size (now (payload .entry))) (r .status) (settingsHeld (r .settings)) ⌝ }
+    ensures { λ r. ⌜ LeavesAcked (carriedOut (settingsHeld settings) kind size (now (payload .entry))) (r .status)
+        (settingsHeld (r .settings)) ⌝ }
 {
     let mut key = settings.key;
     let mut entries = settings.entries;

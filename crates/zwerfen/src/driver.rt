@@ -62,7 +62,8 @@ pub extern "C" fn zwerfen_guest_start_set_flags(
 #[no_mangle]
 pub extern "C" fn zwerfen_guest_start_set_key(guest: &mut Guest, page: &mut [u8], key: &[u8]) -> u32
     requires { ⌜ Good (stateOf (now guest)) ⌝ }
-    ensures { λ r. ⌜ Leaves (startOf (setKeyMessage (now (key .entry))) (stateOf (now (guest .entry))) (now (page .entry))) r (stateOf (now (guest .exit)))
+    ensures { λ r. ⌜ Leaves (startOf (setKeyMessage (now (key .entry))) (stateOf (now (guest .entry))) (now (page .entry))) r
+        (stateOf (now (guest .exit)))
         (now (page .exit))
         × Good (stateOf (now (guest .exit))) ⌝ }
 {
@@ -84,7 +85,8 @@ pub extern "C" fn zwerfen_guest_start_set_mapping(
     entries: &[u64],
 ) -> u32
     requires { ⌜ Good (stateOf (now guest)) ⌝ }
-    ensures { λ r. ⌜ Leaves (startOf (setMappingMessage (now (entries .entry))) (stateOf (now (guest .entry))) (now (page .entry))) r (stateOf (now (guest .exit)))
+    ensures { λ r. ⌜ Leaves (startOf (setMappingMessage (now (entries .entry))) (stateOf (now (guest .entry))) (now (page .entry))) r
+        (stateOf (now (guest .exit)))
         (now (page .exit))
         × Good (stateOf (now (guest .exit))) ⌝ }
 {
@@ -109,8 +111,10 @@ pub extern "C" fn zwerfen_guest_event(
     requires { ⌜ Good (stateOf (now guest)) ⌝ }
     ensures { λ r. ⌜ Leaves (eventOf (stateOf (now (guest .entry))) (now (page .entry))) r (stateOf (now (guest .exit))) (now (page .exit))
         × Good (stateOf (now (guest .exit))) ⌝ }
-    ensures { λ _. ⌜ now (status .exit) ≡ statusOfTold (eventOf (stateOf (now (guest .entry))) (now (page .entry)) .answer) (now (status .entry)) ⌝ }
-    ensures { λ _. ⌜ now (flags .exit) ≡ flagsOfTold (eventOf (stateOf (now (guest .entry))) (now (page .entry)) .answer) (now (flags .entry)) ⌝ }
+    ensures { λ _.
+        ⌜ now (status .exit) ≡ statusOfTold (eventOf (stateOf (now (guest .entry))) (now (page .entry)) .answer) (now (status .entry)) ⌝ }
+    ensures { λ _.
+        ⌜ now (flags .exit) ≡ flagsOfTold (eventOf (stateOf (now (guest .entry))) (now (page .entry)) .answer) (now (flags .entry)) ⌝ }
 {
     on_parts::guest_event(
         &mut guest.numbers,

@@ -24,7 +24,8 @@ pub extern "C" fn zwerfen_write_set_flags(buffer: &mut [u8], flags: u64, length:
 // Sets the key, octet for octet.
 #[no_mangle]
 pub extern "C" fn zwerfen_write_set_key(buffer: &mut [u8], key: &[u8], length: &mut usize) -> u32
-    ensures { λ r. ⌜ Writes (setKeyMessage (now (key .entry))) (now (buffer .entry)) (now (length .entry)) r (now (buffer .exit)) (now (length .exit)) ⌝ }
+    ensures { λ r. ⌜ Writes (setKeyMessage (now (key .entry))) (now (buffer .entry)) (now (length .entry)) r (now (buffer .exit))
+        (now (length .exit)) ⌝ }
 {
     by_number::write_set_key(buffer, key, length)
 }
@@ -36,7 +37,8 @@ pub extern "C" fn zwerfen_write_set_mapping(
     entries: &[u64],
     length: &mut usize,
 ) -> u32
-    ensures { λ r. ⌜ Writes (setMappingMessage (now (entries .entry))) (now (buffer .entry)) (now (length .entry)) r (now (buffer .exit)) (now (length .exit)) ⌝ }
+    ensures { λ r. ⌜ Writes (setMappingMessage (now (entries .entry))) (now (buffer .entry)) (now (length .entry)) r (now (buffer .exit))
+        (now (length .exit)) ⌝ }
 {
     by_number::write_set_mapping(buffer, entries, length)
 }

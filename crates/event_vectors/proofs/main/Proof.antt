@@ -13,7 +13,8 @@ Inv-loop buffer₀ page₀ numbers₀ header₀ payload₀ ack₀ key₀ entries
     (part ≤ 10) × (65536 ≡ length buffer) × (Good (interfaceIn numbers header payload ack key entries) × (length page ≡ 4160))
 
 abbrev μ-loop : tie.MeasureT-loop
-μ-loop buffer₀ page₀ numbers₀ header₀ payload₀ ack₀ key₀ entries₀ part₀ buffer page numbers header payload ack key entries part = 10 - part
+μ-loop buffer₀ page₀ numbers₀ header₀ payload₀ ack₀ key₀ entries₀ part₀ buffer page numbers header payload ack key entries part =
+    10 - part
 
 pub main-spec : {M : Type 1} → statement M
 main-spec =

@@ -13,7 +13,8 @@ Inv-loop numbers₀ header₀ payload₀ ack₀ key₀ entries₀ page₀ cases 
     (at ≤ length cases) × (length page ≡ 4160) × Good (interfaceIn numbers header payload ack key entries)
 
 abbrev μ-loop : tie.MeasureT-loop
-μ-loop numbers₀ header₀ payload₀ ack₀ key₀ entries₀ page₀ cases at₀ numbers header payload ack key entries page at = length cases - at
+μ-loop numbers₀ header₀ payload₀ ack₀ key₀ entries₀ page₀ cases at₀ numbers header payload ack key entries page at =
+    length cases - at
 
 pub run-spec : {M : Type 1} → statement M
 run-spec =

@@ -27,8 +27,13 @@ module _ (d : tie.After-case Inv-loop μ-loop) where
   body = rw (d .case .given .1) at (d .before .before .case-at .ensures)
 
 loop-again : tie.Need-loop-again Inv-loop μ-loop
-loop-again c =
-    (omega (arith, body (c .before .before .before .before .before .before .before .before .before .before)), search needs, search needs, search needs)
+loop-again c = (
+  omega (arith, body (c .before .before .before .before .before .before .before .before .before .before)),
+  search needs,
+  search needs,
+  search
+      needs,
+)
 
 pub run-spec : {M : Type 1} → statement M
 run-spec =

@@ -36,7 +36,8 @@ module _ (d : tie.After-look) where
   -- the reading side once octets have been read
   abbrev side : Incoming
   side =
-      incomingOf header payload (getD (start .args .numbers .now) 4 0 + reading .receive .result) (d .before .before .before .wrapping-add-u32 .result)
+      incomingOf header payload (getD (start .args .numbers .now) 4 0 + reading .receive .result)
+      (d .before .before .before .wrapping-add-u32 .result)
 
   module _ (request : List ℕ) where
     abbrev guest : GuestState

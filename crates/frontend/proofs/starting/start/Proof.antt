@@ -71,7 +71,8 @@ module _ (d : tie.After-write-request) where
   -- it refuses the request
   refused-by : (w : Written) → d .write-request .result ≡ w → (k : Refusal) → (refusalNumber k ≡ bufferTooShort → ⊥)
       → writtenOutcomeOf w ≡ refused (refusalNumber k)
-      → (left (Refused k) (guestIn (from .args .numbers .now) (d .write-request .last .1 .1 .1 .0) (from .args .header .now) (from .args .payload .now))
+      → (left (Refused k)
+      (guestIn (from .args .numbers .now) (d .write-request .last .1 .1 .1 .0) (from .args .header .now) (from .args .payload .now))
       (page from) ≡ startOf (message from) (lent from) (page from))
       × Good (guestIn (from .args .numbers .now) (d .write-request .last .1 .1 .1 .0) (from .args .header .now) (from .args .payload .now))
   refused-by w e k other r =
@@ -83,7 +84,8 @@ module _ (d : tie.After-write-request) where
       ∙ starts-refused (message from) (lent from) (page from) room there k (both .0))
 
   -- or has written it
-  wrote-it : (n : ℕ) → d .write-request .result ≡ Length n → Wrote (message from) (from .args .request .now) n (d .write-request .last .1 .1 .1 .0)
+  wrote-it : (n : ℕ) → d .write-request .result ≡ Length n
+      → Wrote (message from) (from .args .request .now) n (d .write-request .last .1 .1 .1 .0)
   wrote-it n l = wrote (message from) _ _ (d .write-request .result) n l (d .write-request .ensures)
 
 returns : tie.Need-returns

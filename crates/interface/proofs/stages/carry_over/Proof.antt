@@ -25,7 +25,11 @@ module _ (d : tie.After-held) where
 cast-carry-out-3 : tie.Need-cast-carry-out-3
 cast-carry-out-3 c =
     let s = start (c .before .before .before) in
-    omega (arith, listed-parts (settingsIn (s .args .numbers .now) (s .args .key .now) (s .args .entries .now) .mapping .count) .0 (s .pre .mapping .listed) .1)
+    omega (
+      arith,
+      listed-parts (settingsIn (s .args .numbers .now) (s .args .key .now) (s .args .entries .now) .mapping .count) .0
+          (s .pre .mapping .listed) .1,
+    )
 
 -- once the request has been carried out
 module _ (d : tie.After-carry-out) where

@@ -48,7 +48,8 @@ module _ (d : tie.After-write-counts) where
 
   -- by whether octets are still owed
   concludes : (r : EventAnswer)
-      → answerNumber r ≡ cond (ltb (getD (from .args .numbers .now) 6 0 + sending .send .result) (getD (from .args .numbers .now) 5 0)) ackOwed ackWritten
+      → answerNumber r
+      ≡ cond (ltb (getD (from .args .numbers .now) 6 0 + sending .send .result) (getD (from .args .numbers .now) 5 0)) ackOwed ackWritten
       → Responds (from .args .numbers .now) (from .args .ack .now) (from .args .page .now) (from .args .room) r
       (set (set (from .args .numbers .now) 6 (getD (from .args .numbers .now) 6 0 + sending .send .result)) 7 (counted .wrapping-add-u32 .result))
       (d .write-counts .last .0)

@@ -35,7 +35,8 @@ abbrev all-of : List ℕ → Fall
 all-of captured = rest-of captured captureHeader
 
 abbrev Inv-loop : tie.InvT-loop
-Inv-loop s link xs key entries ps₀ os₀ u₀ p₀ o₀ at₀ ps os u p o at = Counting (settingsHeld s) link (all-of xs) (rest-of xs at) ps os u p o
+Inv-loop s link xs key entries ps₀ os₀ u₀ p₀ o₀ at₀ ps os u p o at = Counting (settingsHeld s) link (all-of xs) (rest-of xs at) ps os u p
+    o
 
 abbrev μ-loop : tie.MeasureT-loop
 μ-loop s link xs key entries ps₀ os₀ u₀ p₀ o₀ at₀ ps os u p o at = length xs - at

@@ -19,7 +19,8 @@ use Rattle.zwerfen.proofs.host.zwerfen_set_up.Code as code
 pub zwerfen-set-up-spec : {M : Type 1} → stated.statement M
 unfolding code.routine
 zwerfen-set-up-spec 𝓤 H 𝓜 𝓖 𝓡 =
-    concluded 𝓤 H 𝓜 𝓖 𝓡 f.signature on-parts.signature (f.spec 𝓤 H) (on-parts.spec 𝓤 H) code.env #f code.function (code.unfolded 𝓤 H 𝓜 𝓡)
+    concluded 𝓤 H 𝓜 𝓖 𝓡 f.signature on-parts.signature (f.spec 𝓤 H) (on-parts.spec 𝓤 H) code.env #f code.function
+    (code.unfolded 𝓤 H 𝓜 𝓡)
     on-parts-def.name on-parts-def.routine code.calls-on-parts·set-up (on-parts-thm.met 𝓤 H 𝓜 𝓖 𝓡) (λ 𝓣 known.
     exported (rowBy interface) (partsOf interface) 0 (tail (f.signature .params)) (f.ended .kept .1) (f.signature .result)
     𝓤 H (𝓖 .A) (givenOf 𝓤 H 𝓜 𝓖) 𝓣 code.function on-parts-def.name
