@@ -21,12 +21,5 @@ returns c = omega (arith, body (c .before .before))
 
 pub take-case-spec : {M : Type 1} → statement M
 take-case-spec =
-    tie.close
-    (tie.spec
-    (λ c κs. search needs)
-    (λ c. search needs)
-    (λ c. search needs)
-    (λ c. search needs)
-    (λ c κs. search needs)
-    returns
+    tie.close (tie.spec (λ c κs. search needs) (λ c. search needs) (λ c. search needs) (λ c. search needs) (λ c κs. search needs) returns
     (λ c. search needs))

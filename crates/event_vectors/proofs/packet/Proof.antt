@@ -13,12 +13,5 @@ cast-count c =
 
 pub packet-spec : {M : Type 1} → statement M
 packet-spec =
-    tie.close
-    (tie.spec
-    (λ c. search needs)
-    (λ c. search needs)
-    (λ c. search needs)
-    cast-count
-    (λ c κs. search needs)
-    (λ c κs. search needs)
+    tie.close (tie.spec (λ c. search needs) (λ c. search needs) (λ c. search needs) cast-count (λ c κs. search needs) (λ c κs. search needs)
     (λ c. search needs))

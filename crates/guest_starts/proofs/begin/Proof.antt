@@ -40,12 +40,4 @@ returns c header payload =
     ∙ ap (λ (g : GuestState). wroteOn g (a .page .now) (a .room)) (stored-begun (a .numbers .now) (a .request .now) header payload (long d) (a .n))
 
 pub begin-spec : {M : Type 1} → statement M
-begin-spec =
-    tie.close
-    (tie.spec
-    (λ c. search needs)
-    (λ c. search needs)
-    (λ c. search needs)
-    write-on-requires
-    (λ c. search needs)
-    returns)
+begin-spec = tie.close (tie.spec (λ c. search needs) (λ c. search needs) (λ c. search needs) write-on-requires (λ c. search needs) returns)

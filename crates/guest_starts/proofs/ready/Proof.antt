@@ -30,13 +30,4 @@ returns-3 c request header payload =
     (λ e. c .if1 .left e)
 
 pub ready-spec : {M : Type 1} → statement M
-ready-spec =
-    tie.close
-    (tie.spec
-    (λ c κs. search needs)
-    (λ c. search needs)
-    (λ c. search needs)
-    (λ c. search needs)
-    returns
-    returns-2
-    returns-3)
+ready-spec = tie.close (tie.spec (λ c κs. search needs) (λ c. search needs) (λ c. search needs) (λ c. search needs) returns returns-2 returns-3)

@@ -36,19 +36,6 @@ loop-again c =
 
 pub run-spec : {M : Type 1} → statement M
 run-spec =
-    tie.close
-    (tie.spec
-    Inv-loop
-    μ-loop
-    (λ c. search needs)
-    (λ c κs. search needs)
-    (λ c. search needs)
-    (λ c. search needs)
-    (λ c. search needs)
-    (λ c κs. (search needs, search needs))
-    (λ c κs. search needs)
-    (λ c κs. (search needs, search needs))
-    (λ c. omega (arith, taken (c .before .before)))
-    loop-again
-    (λ c. search needs)
-    (λ c. search needs))
+    tie.close (tie.spec Inv-loop μ-loop (λ c. search needs) (λ c κs. search needs) (λ c. search needs) (λ c. search needs)
+    (λ c. search needs) (λ c κs. (search needs, search needs)) (λ c κs. search needs) (λ c κs. (search needs, search needs))
+    (λ c. omega (arith, taken (c .before .before))) loop-again (λ c. search needs) (λ c. search needs))

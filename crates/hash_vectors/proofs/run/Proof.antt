@@ -23,21 +23,8 @@ module _ (d : tie.After-case Inv-loop μ-loop) where
 
 pub run-spec : {M : Type 1} → statement M
 run-spec =
-    tie.close
-    (tie.spec
-    Inv-loop
-    μ-loop
-    (λ c. omega arith)
-    (λ c κs. search needs)
-    (λ c. search needs)
-    (λ c. search needs)
-    (λ c. omega (arith, body (c .before .before)))
-    (λ c. omega (arith, body (c .before .before)))
-    (λ c. omega (arith, body (c .before .before)))
-    (λ c κs. search needs)
-    (λ c. omega (arith, body (c .before .before .before .before)))
-    (λ c. omega (arith, body (c .before .before .before .before)))
-    (λ c. search needs)
-    (λ c κs. search needs)
-    (λ c. search needs)
+    tie.close (tie.spec Inv-loop μ-loop (λ c. omega arith) (λ c κs. search needs) (λ c. search needs) (λ c. search needs)
+    (λ c. omega (arith, body (c .before .before))) (λ c. omega (arith, body (c .before .before)))
+    (λ c. omega (arith, body (c .before .before))) (λ c κs. search needs) (λ c. omega (arith, body (c .before .before .before .before)))
+    (λ c. omega (arith, body (c .before .before .before .before))) (λ c. search needs) (λ c κs. search needs) (λ c. search needs)
     (λ c. search needs))

@@ -27,21 +27,7 @@ found d = d .before .before .before .before .before .before .before
 
 pub run-spec : {M : Type 1} → statement M
 run-spec =
-    tie.close
-    (tie.spec
-    Inv-loop
-    μ-loop
-    (λ c. search needs)
-    (λ c κs. search needs)
-    (λ c. search needs)
-    (λ c. search needs)
-    (λ c. omega (arith, body (c .before .before)))
-    (λ c. omega (arith, body (c .before .before)))
-    (λ c. omega (arith, body (c .before .before)))
-    (λ c κs. search needs)
-    (λ c. omega (arith, body (found c)))
-    (λ c. omega (arith, body (found c)))
-    (λ c. search needs)
-    (λ c κs. search needs)
-    (λ c. search needs)
-    (λ c. search needs))
+    tie.close (tie.spec Inv-loop μ-loop (λ c. search needs) (λ c κs. search needs) (λ c. search needs) (λ c. search needs)
+    (λ c. omega (arith, body (c .before .before))) (λ c. omega (arith, body (c .before .before)))
+    (λ c. omega (arith, body (c .before .before))) (λ c κs. search needs) (λ c. omega (arith, body (found c)))
+    (λ c. omega (arith, body (found c))) (λ c. search needs) (λ c κs. search needs) (λ c. search needs) (λ c. search needs))

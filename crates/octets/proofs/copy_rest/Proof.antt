@@ -25,15 +25,5 @@ returns c = copied-all _ _ _ _ (c .before .before .pre .0 .0) (c .loop-test .lef
 
 pub copy-rest-spec : {M : Type 1} → statement M
 copy-rest-spec =
-    tie.close
-    (tie.spec
-    Inv-loop
-    μ-loop
-    (λ c. (c .pre .1, refl, search needs))
-    (λ c. omega arith)
-    (λ c. omega arith)
-    (λ c. omega arith)
-    (λ c. omega arith)
-    loop-again
-    (λ c. c .before .loop .inv .1)
-    returns)
+    tie.close (tie.spec Inv-loop μ-loop (λ c. (c .pre .1, refl, search needs)) (λ c. omega arith) (λ c. omega arith) (λ c. omega arith)
+    (λ c. omega arith) loop-again (λ c. c .before .loop .inv .1) returns)

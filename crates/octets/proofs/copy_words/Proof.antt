@@ -39,16 +39,6 @@ loop-again c =
 
 pub copy-words-spec : {M : Type 1} → statement M
 copy-words-spec =
-    tie.close
-    (tie.spec
-    Inv-loop
-    μ-loop
-    (λ c. (refl, refl, search needs))
-    (λ c. omega arith)
-    (λ c κs. omega arith)
-    (λ c κs. omega arith)
-    (λ c. omega arith)
-    (λ c. omega arith)
-    loop-again
-    (λ c. c .before .loop .inv .1)
+    tie.close (tie.spec Inv-loop μ-loop (λ c. (refl, refl, search needs)) (λ c. omega arith) (λ c κs. omega arith) (λ c κs. omega arith)
+    (λ c. omega arith) (λ c. omega arith) loop-again (λ c. c .before .loop .inv .1)
     (λ c. (c .before .loop .inv .0, c .before .loop .inv .2)))

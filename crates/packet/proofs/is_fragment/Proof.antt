@@ -18,11 +18,4 @@ returns c =
     ap (λ (field : ℕ). not (eqb (bitAnd field 16383) 0)) (c .joined .ensures) ∙ fragment-told p
 
 pub is-fragment-spec : {M : Type 1} → statement M
-is-fragment-spec =
-    tie.close
-    (tie.spec
-    (λ c. search needs)
-    (λ c. search needs)
-    (λ c. search needs)
-    (λ c κs. search needs)
-    returns)
+is-fragment-spec = tie.close (tie.spec (λ c. search needs) (λ c. search needs) (λ c. search needs) (λ c κs. search needs) returns)

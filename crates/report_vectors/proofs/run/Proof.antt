@@ -37,25 +37,9 @@ loop-again c = (
 
 pub run-spec : {M : Type 1} → statement M
 run-spec =
-    tie.close
-    (tie.spec
-    Inv-loop
-    μ-loop
-    (λ c. search needs)
-    (λ c κs. search needs)
-    (λ c. search needs)
-    (λ c. search needs)
-    (λ c. omega (arith, body (c .before .before .before .before)))
-    (λ c. omega (arith, body (c .before .before .before .before)))
-    (λ c. omega (arith, body (c .before .before .before .before)))
-    (λ c κs. search needs)
-    (λ c. omega (arith, body (c .before .before .before .before .before .before .before .before .before .before)))
-    loop-again
-    (λ c. search needs)
-    (λ c κs. search needs)
-    (λ c. search needs)
-    (λ c. search needs)
-    (λ c. search needs)
-    (λ c. search needs)
-    (λ c. search needs)
-    (λ c. search needs))
+    tie.close (tie.spec Inv-loop μ-loop (λ c. search needs) (λ c κs. search needs) (λ c. search needs) (λ c. search needs)
+    (λ c. omega (arith, body (c .before .before .before .before))) (λ c. omega (arith, body (c .before .before .before .before)))
+    (λ c. omega (arith, body (c .before .before .before .before))) (λ c κs. search needs)
+    (λ c. omega (arith, body (c .before .before .before .before .before .before .before .before .before .before))) loop-again
+    (λ c. search needs) (λ c κs. search needs) (λ c. search needs) (λ c. search needs) (λ c. search needs) (λ c. search needs)
+    (λ c. search needs) (λ c. search needs))

@@ -70,17 +70,5 @@ returns-2 c =
 
 pub carry-out-all-spec : {M : Type 1} → statement M
 carry-out-all-spec =
-    tie.close
-    (tie.spec
-    Inv-loop
-    μ-loop
-    loop-holds
-    (λ c. search needs)
-    (λ c. search needs)
-    (λ c. search needs)
-    carry-out-first-requires
-    returns
-    add-at
-    loop-less
-    loop-again
-    returns-2)
+    tie.close (tie.spec Inv-loop μ-loop loop-holds (λ c. search needs) (λ c. search needs) (λ c. search needs) carry-out-first-requires
+    returns add-at loop-less loop-again returns-2)

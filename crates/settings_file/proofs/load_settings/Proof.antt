@@ -66,15 +66,5 @@ returns-2 c =
 
 pub load-settings-spec : {M : Type 1} → statement M
 load-settings-spec =
-    tie.close
-    (tie.spec
-    (λ c κs. search needs)
-    (λ c κs. search needs)
-    (λ c. search needs)
-    sub-carry-out-all
-    part-carry-out-all-start
-    (λ c. search needs)
-    carry-out-all-requires
-    (λ c. search needs)
-    returns
-    returns-2)
+    tie.close (tie.spec (λ c κs. search needs) (λ c κs. search needs) (λ c. search needs) sub-carry-out-all part-carry-out-all-start
+    (λ c. search needs) carry-out-all-requires (λ c. search needs) returns returns-2)

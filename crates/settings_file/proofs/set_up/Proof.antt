@@ -34,13 +34,5 @@ returns c = (c .set-up .ensures .0, is c)
 
 pub set-up-spec : {M : Type 1} → statement M
 set-up-spec =
-    tie.close
-    (tie.spec
-    (λ c κs. search needs)
-    (λ c. search needs)
-    (λ c. let few = good c .queues in search needs)
-    (λ c. search needs)
-    (λ c. let few = good c .flags in search needs)
-    (λ c. search needs)
-    (λ c. let few = few-entries c in search needs)
-    returns)
+    tie.close (tie.spec (λ c κs. search needs) (λ c. search needs) (λ c. let few = good c .queues in search needs) (λ c. search needs)
+    (λ c. let few = good c .flags in search needs) (λ c. search needs) (λ c. let few = few-entries c in search needs) returns)

@@ -44,16 +44,5 @@ returns-2 c = steered-part _ _ _ _ _ (found (c .before .before .before)) _ _ _ _
 
 pub steer-spec : {M : Type 1} → statement M
 steer-spec =
-    tie.close
-    (tie.spec
-    (λ c κs. search needs)
-    (λ c. search needs)
-    (λ c κs. search needs)
-    (λ c. search needs)
-    sub-steer-ip
-    part-steer-ip-start
-    part-steer-ip-end
-    sub-steer-ip-2
-    steer-ip-requires
-    returns
-    returns-2)
+    tie.close (tie.spec (λ c κs. search needs) (λ c. search needs) (λ c κs. search needs) (λ c. search needs) sub-steer-ip
+    part-steer-ip-start part-steer-ip-end sub-steer-ip-2 steer-ip-requires returns returns-2)

@@ -47,17 +47,5 @@ returns-3 c =
 
 pub steer-ip-spec : {M : Type 1} → statement M
 steer-ip-spec =
-    tie.close
-    (tie.spec
-    (λ c κs. search needs)
-    hashed-requires
-    returns
-    (λ c. search needs)
-    (λ c κs. search needs)
-    (λ c. search needs)
-    (λ c. search needs)
-    (λ c. search needs)
-    hashed-requires-2
-    returns-2
-    (λ c κs. search needs)
-    returns-3)
+    tie.close (tie.spec (λ c κs. search needs) hashed-requires returns (λ c. search needs) (λ c κs. search needs) (λ c. search needs)
+    (λ c. search needs) (λ c. search needs) hashed-requires-2 returns-2 (λ c κs. search needs) returns-3)

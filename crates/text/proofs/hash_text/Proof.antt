@@ -38,13 +38,5 @@ returns c =
 
 pub hash-text-spec : {M : Type 1} → statement M
 hash-text-spec =
-    tie.close
-    (tie.spec
-    (λ c κs. search needs)
-    (λ c. sym (length-take-le _ _ (search needs)))
-    (λ c. search needs)
-    (λ c. search needs)
-    (λ c. search needs)
-    (λ c κs. search needs)
-    (λ c κs. search needs)
-    returns)
+    tie.close (tie.spec (λ c κs. search needs) (λ c. sym (length-take-le _ _ (search needs))) (λ c. search needs) (λ c. search needs)
+    (λ c. search needs) (λ c κs. search needs) (λ c κs. search needs) returns)

@@ -42,5 +42,4 @@ returns c =
     c .steer .ensures ∙ ap (λ (n : ℕ). steered (a .flags) (a .key .now) (take n (a .entries .now)) (a .packet .now)) (sub-zero (a .count))
 
 pub steer-spec : {M : Type 1} → statement M
-steer-spec =
-    tie.close (tie.spec (λ c. search needs) (λ c. search needs) part-steer-end steer-requires returns)
+steer-spec = tie.close (tie.spec (λ c. search needs) (λ c. search needs) part-steer-end steer-requires returns)

@@ -11,5 +11,4 @@ returns c =
     writes _ _ _ (d .write-get-flags .result) _ _ _ (d .write-get-flags .ensures) (c .tell .ensures)
 
 pub write-get-flags-spec : {M : Type 1} → statement M
-write-get-flags-spec =
-    tie.close (tie.spec (λ c κs. search needs) (λ c κs. search needs) (λ c. search needs) returns)
+write-get-flags-spec = tie.close (tie.spec (λ c κs. search needs) (λ c κs. search needs) (λ c. search needs) returns)

@@ -11,5 +11,4 @@ returns c =
     writes _ _ _ (d .write-set-flags .result) _ _ _ (d .write-set-flags .ensures) (c .tell .ensures)
 
 pub write-set-flags-spec : {M : Type 1} → statement M
-write-set-flags-spec =
-    tie.close (tie.spec (λ c κs. search needs) (λ c κs. search needs) (λ c. search needs) returns)
+write-set-flags-spec = tie.close (tie.spec (λ c κs. search needs) (λ c κs. search needs) (λ c. search needs) returns)

@@ -11,5 +11,4 @@ returns c =
     writes _ _ _ (d .write-set-key .result) _ _ _ (d .write-set-key .ensures) (c .tell .ensures)
 
 pub write-set-key-spec : {M : Type 1} → statement M
-write-set-key-spec =
-    tie.close (tie.spec (λ c κs. search needs) (λ c κs. search needs) (λ c. search needs) returns)
+write-set-key-spec = tie.close (tie.spec (λ c κs. search needs) (λ c κs. search needs) (λ c. search needs) returns)

@@ -11,5 +11,4 @@ returns c =
     writes _ _ _ (d .write-set-mapping .result) _ _ _ (d .write-set-mapping .ensures) (c .tell .ensures)
 
 pub write-set-mapping-spec : {M : Type 1} → statement M
-write-set-mapping-spec =
-    tie.close (tie.spec (λ c κs. search needs) (λ c κs. search needs) (λ c. search needs) returns)
+write-set-mapping-spec = tie.close (tie.spec (λ c κs. search needs) (λ c κs. search needs) (λ c. search needs) returns)

@@ -25,6 +25,4 @@ returns-3 c =
     rw (← first .before .u32-at .ensures, first .if1 .left, ← second .before .u16-at .ensures, second .if2 .left, ← c .u16-at2 .ensures) refl
 
 pub is-classic-spec : {M : Type 1} → statement M
-is-classic-spec =
-    tie.close
-    (tie.spec (λ c κs. search needs) returns (λ c κs. search needs) returns-2 (λ c κs. search needs) returns-3)
+is-classic-spec = tie.close (tie.spec (λ c κs. search needs) returns (λ c κs. search needs) returns-2 (λ c κs. search needs) returns-3)

@@ -35,15 +35,5 @@ returns-3 c = rw (c .enum-told2 .given .1) refl
 
 pub ip-part-spec : {M : Type 1} → statement M
 ip-part-spec =
-    tie.close
-    (tie.spec
-    (λ c. search needs)
-    (λ c κs. search needs)
-    sub-result
-    part-result-start
-    (λ c. search needs)
-    (λ c. search needs)
-    (λ c. search needs)
-    returns
-    returns-2
-    returns-3)
+    tie.close (tie.spec (λ c. search needs) (λ c κs. search needs) sub-result part-result-start (λ c. search needs) (λ c. search needs)
+    (λ c. search needs) returns returns-2 returns-3)

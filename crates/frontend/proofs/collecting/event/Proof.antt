@@ -122,24 +122,6 @@ returns-4 c =
 
 pub event-spec : {M : Type 1} → statement M
 event-spec =
-    tie.close
-    (tie.spec
-    (λ c κs. search needs)
-    (λ c. search needs)
-    (λ c. search needs)
-    (λ c. search needs)
-    write-counts-requires
-    (λ c. search needs)
-    returns
-    (λ c. search needs)
-    (λ c. search needs)
-    write-on-requires
-    (λ c κs. search needs)
-    (λ c. search needs)
-    returns-2
-    (λ c κs. search needs)
-    collect-requires
-    (λ c. search needs)
-    returns-3
-    (λ c. search needs)
-    returns-4)
+    tie.close (tie.spec (λ c κs. search needs) (λ c. search needs) (λ c. search needs) (λ c. search needs) write-counts-requires
+    (λ c. search needs) returns (λ c. search needs) (λ c. search needs) write-on-requires (λ c κs. search needs) (λ c. search needs)
+    returns-2 (λ c κs. search needs) collect-requires (λ c. search needs) returns-3 (λ c. search needs) returns-4)

@@ -17,5 +17,4 @@ returns c =
     size .write-u322 .ensures ∙ header-put _ _ _ _ room (kind .write-u32 .ensures)
 
 pub write-header-spec : {M : Type 1} → statement M
-write-header-spec =
-    tie.close (tie.spec (λ c κs. search needs) (λ c κs. search needs) (λ c. search needs) returns)
+write-header-spec = tie.close (tie.spec (λ c κs. search needs) (λ c κs. search needs) (λ c. search needs) returns)

@@ -11,8 +11,4 @@ returns : tie.Need-returns
 returns c = subst (λ (g : GuestState). Good g) (sym (c .set-up .ensures)) good-at-setup
 
 pub set-up-spec : {M : Type 1} → statement M
-set-up-spec =
-    tie.close
-    (tie.spec
-    (λ c κs. search needs)
-    returns)
+set-up-spec = tie.close (tie.spec (λ c κs. search needs) returns)

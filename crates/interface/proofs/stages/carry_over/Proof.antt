@@ -64,22 +64,6 @@ returns c =
 
 pub carry-over-spec : {M : Type 1} → statement M
 carry-over-spec =
-    tie.close
-    (tie.spec
-    (λ c κs. search needs)
-    (λ c κs. search needs)
-    (λ c. search needs)
-    (λ c. search needs)
-    (λ c. search needs)
-    (λ c. search needs)
-    (λ c. search needs)
-    cast-carry-out-3
-    (λ c κs. search needs)
-    (λ c. search needs)
-    (λ c. search needs)
-    (λ c. search needs)
-    slice-write-held-2
-    slice-write-held-3
-    slice-write-held-4
-    slice-write-held-5
-    returns)
+    tie.close (tie.spec (λ c κs. search needs) (λ c κs. search needs) (λ c. search needs) (λ c. search needs) (λ c. search needs)
+    (λ c. search needs) (λ c. search needs) cast-carry-out-3 (λ c κs. search needs) (λ c. search needs) (λ c. search needs)
+    (λ c. search needs) slice-write-held-2 slice-write-held-3 slice-write-held-4 slice-write-held-5 returns)

@@ -28,12 +28,4 @@ returns-3 c q key entries count =
     flags-set held _ _ _ value (set-flags-done _ _ _ (read .before .if1 .left) (rw value at (c .if2 .left)))
 
 pub set-flags-spec : {M : Type 1} → statement M
-set-flags-spec =
-    tie.close
-    (tie.spec
-    returns
-    (λ c κs. search needs)
-    (λ c. search needs)
-    returns-2
-    (λ c. search needs)
-    returns-3)
+set-flags-spec = tie.close (tie.spec returns (λ c κs. search needs) (λ c. search needs) returns-2 (λ c. search needs) returns-3)

@@ -63,13 +63,4 @@ returns-5 c flags key =
 
 pub set-mapping-spec : {M : Type 1} → statement M
 set-mapping-spec =
-    tie.close
-    (tie.spec
-    returns
-    (λ c κs. search needs)
-    returns-2
-    returns-3
-    (λ c. search needs)
-    (λ c κs. search needs)
-    returns-4
-    returns-5)
+    tie.close (tie.spec returns (λ c κs. search needs) returns-2 returns-3 (λ c. search needs) (λ c κs. search needs) returns-4 returns-5)

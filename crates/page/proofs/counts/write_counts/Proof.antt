@@ -11,5 +11,4 @@ returns c =
     rw (second .write-u322 .ensures, second .before .before .before .before .write-u32 .ensures) refl
 
 pub write-counts-spec : {M : Type 1} → statement M
-write-counts-spec =
-    tie.close (tie.spec (λ c κs. search needs) (λ c κs. search needs) (λ c. search needs) returns)
+write-counts-spec = tie.close (tie.spec (λ c κs. search needs) (λ c κs. search needs) (λ c. search needs) returns)

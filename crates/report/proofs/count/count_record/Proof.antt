@@ -57,13 +57,5 @@ returns c =
 
 pub count-record-spec : {M : Type 1} → statement M
 count-record-spec =
-    tie.close
-    (tie.spec
-    (λ c κs. search needs)
-    (λ c κs. search needs)
-    (λ c κs. search needs)
-    (λ c. search needs)
-    add-requires
-    add-requires-2
-    (λ c κs. search needs)
-    returns)
+    tie.close (tie.spec (λ c κs. search needs) (λ c κs. search needs) (λ c κs. search needs) (λ c. search needs) add-requires add-requires-2
+    (λ c κs. search needs) returns)

@@ -192,27 +192,6 @@ returns-2 c =
 
 pub count-records-spec : {M : Type 1} → statement M
 count-records-spec =
-    tie.close
-    (tie.spec
-    Inv-loop
-    μ-loop
-    loop-holds
-    (λ c κs. search needs)
-    (λ c. search needs)
-    sub-count-record
-    part-count-record-start
-    part-count-record-end
-    count-record-requires
-    add-unhashed
-    add-records
-    sub-total
-    cast-total
-    add-total
-    loop-less
-    loop-again
-    (λ c. search needs)
-    (λ c. search needs)
-    (λ c κs. search needs)
-    returns
-    (λ c κs. search needs)
-    returns-2)
+    tie.close (tie.spec Inv-loop μ-loop loop-holds (λ c κs. search needs) (λ c. search needs) sub-count-record part-count-record-start
+    part-count-record-end count-record-requires add-unhashed add-records sub-total cast-total add-total loop-less loop-again
+    (λ c. search needs) (λ c. search needs) (λ c κs. search needs) returns (λ c κs. search needs) returns-2)

@@ -69,15 +69,5 @@ returns c =
 
 pub receive-spec : {M : Type 1} → statement M
 receive-spec =
-    tie.close
-    (tie.spec
-    (λ c κs. search needs)
-    (λ c. search needs)
-    (λ c. search needs)
-    (λ c κs. search needs)
-    (λ c. search needs)
-    read-payload-requires
-    (λ c. search needs)
-    cast-result
-    (λ c. search needs)
-    returns)
+    tie.close (tie.spec (λ c κs. search needs) (λ c. search needs) (λ c. search needs) (λ c κs. search needs) (λ c. search needs)
+    read-payload-requires (λ c. search needs) cast-result (λ c. search needs) returns)

@@ -14,11 +14,4 @@ returns c =
     (adds-then word (adds-then (number .0) end), omega (arith, word .longer, number .1, end .longer))
 
 pub with-number-spec : {M : Type 1} → statement M
-with-number-spec =
-    tie.close
-    (tie.spec
-    (λ c κs. search needs)
-    (λ c κs. search needs)
-    (λ c. search needs)
-    (λ c κs. search needs)
-    returns)
+with-number-spec = tie.close (tie.spec (λ c κs. search needs) (λ c κs. search needs) (λ c. search needs) (λ c κs. search needs) returns)

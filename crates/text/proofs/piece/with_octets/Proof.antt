@@ -33,14 +33,5 @@ returns c =
 
 pub with-octets-spec : {M : Type 1} → statement M
 with-octets-spec =
-    tie.close
-    (tie.spec
-    Inv-loop
-    μ-loop
-    (λ c. (omega arith, adds-none _))
-    (λ c. search needs)
-    with-octet-requires
-    (λ c. search needs)
-    (λ c. search needs)
-    loop-again
-    returns)
+    tie.close (tie.spec Inv-loop μ-loop (λ c. (omega arith, adds-none _)) (λ c. search needs) with-octet-requires (λ c. search needs)
+    (λ c. search needs) loop-again returns)

@@ -19,7 +19,5 @@ large (suc (suc t)) h = refl
 
 pub address-size-spec : {M : Type 1} → statement M
 address-size-spec =
-    tie.close
-    (tie.spec
-    (λ c. (small (c .before .args .hash-type) (c .if1 .taken), omega arith))
+    tie.close (tie.spec (λ c. (small (c .before .args .hash-type) (c .if1 .taken), omega arith))
     (λ c. (large (c .before .args .hash-type) (c .if1 .left), omega arith)))

@@ -43,24 +43,8 @@ loop-again c =
 
 pub first-difference-spec : {M : Type 1} → statement M
 first-difference-spec =
-    tie.close
-    (tie.spec
-    Inv-loop
-    μ-loop
-    (λ c κs. search needs)
-    (λ c. search needs)
-    (λ c κs. search needs)
-    loop-holds
-    (λ c. search needs)
-    returns
-    (λ c. search needs)
-    (λ c. search needs)
-    (λ c κs. (omega arith, omega arith, c .before .before .loop .inv .0))
-    (λ c. search needs)
-    (λ c. search needs)
-    (λ c. search needs)
-    (λ c κs. (omega arith, omega arith, c .before .before .before .loop .inv .1))
-    (λ c. search needs)
-    (λ c. search needs)
-    loop-again
+    tie.close (tie.spec Inv-loop μ-loop (λ c κs. search needs) (λ c. search needs) (λ c κs. search needs) loop-holds (λ c. search needs)
+    returns (λ c. search needs) (λ c. search needs) (λ c κs. (omega arith, omega arith, c .before .before .loop .inv .0))
+    (λ c. search needs) (λ c. search needs) (λ c. search needs)
+    (λ c κs. (omega arith, omega arith, c .before .before .before .loop .inv .1)) (λ c. search needs) (λ c. search needs) loop-again
     (λ c k h. c .before .loop .inv .2 k (omega arith)))

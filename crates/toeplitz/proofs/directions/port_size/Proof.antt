@@ -16,7 +16,5 @@ by-parity (suc (suc (suc (suc t)))) h = absurd (omega arith)
 
 pub port-size-spec : {M : Type 1} → statement M
 port-size-spec =
-    tie.close
-    (tie.spec
-    (λ c. (omega (arith, by-parity (c .before .args .hash-type) (c .before .pre)), omega arith))
+    tie.close (tie.spec (λ c. (omega (arith, by-parity (c .before .args .hash-type) (c .before .pre)), omega arith))
     (λ c. (omega (arith, by-parity (c .before .args .hash-type) (c .before .pre)), omega arith)))

@@ -34,13 +34,5 @@ returns c =
 
 pub hash-octets-spec : {M : Type 1} → statement M
 hash-octets-spec =
-    tie.close
-    (tie.spec
-    Inv-loop
-    μ-loop
-    loop-holds
-    (λ c κs. ((omega arith, omega arith, omega arith), c .before .loop .inv .0))
-    (λ c. search needs)
-    (λ c. search needs)
-    loop-again
-    returns)
+    tie.close (tie.spec Inv-loop μ-loop loop-holds (λ c κs. ((omega arith, omega arith, omega arith), c .before .loop .inv .0))
+    (λ c. search needs) (λ c. search needs) loop-again returns)

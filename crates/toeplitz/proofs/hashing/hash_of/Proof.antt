@@ -19,13 +19,5 @@ returns c = c .hash-octets .ensures ∙ ap₂ publishedHash (whole _) (whole _)
 
 pub hash-of-spec : {M : Type 1} → statement M
 hash-of-spec =
-    tie.close
-    (tie.spec
-    (λ c. search needs)
-    (λ c. search needs)
-    (λ c. search needs)
-    (λ c. search needs)
-    (λ c. search needs)
-    (λ c. search needs)
-    (λ c κs. search needs)
-    returns)
+    tie.close (tie.spec (λ c. search needs) (λ c. search needs) (λ c. search needs) (λ c. search needs) (λ c. search needs)
+    (λ c. search needs) (λ c κs. search needs) returns)
