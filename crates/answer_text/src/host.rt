@@ -1,9 +1,6 @@
 // The cases of the host's interface that more than one test program runs, and the lines that they print. The parts of the
 // interface are the program's, and are lent.
-ghost use mathlib.Core.Path.{_≡_};
-ghost use mathlib.Core.List.{List};
-ghost use Prim.Native.Nat.{ℕ};
-ghost use lib.ListN.{length};
+ghost use Rattle.octets.specs.Prelude.{_≡_, List, ℕ, length};
 ghost use Rattle.interface.specs.States.{Good, interfaceIn};
 use crate::print_settings;
 use cases::number_at;

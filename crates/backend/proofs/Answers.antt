@@ -1,14 +1,7 @@
 -- The answers of setup and of an event: each refusal exactly where its condition is the first that holds.
 -- Assumes nothing.
-use mathlib.Core.Path.{_≡_, refl, sym, ap, _∙_}
-use mathlib.Core.List.{List}
-use mathlib.Core.Logic.{_↔_, _⊎_, inl, inr, ⊎-elim}
-use mathlib.Core.Bool.{Bool, true, false, cond, _&&_, false≢true}
-use Prim.Native.Nat.{ℕ, _≤_, _<_}
-use native.Mathlib.Omega.{arith}
-use lib.ListN.{length}
-use lib.Dec.{eqb, leb}
-use borrow.Author.Tests.{le-leb, leb-true}
+use Rattle.octets.specs.Prelude.{_≡_, refl, sym, ap, _∙_, List, _↔_, _⊎_, inl, inr, ⊎-elim, Bool, true, false, cond, _&&_}
+use Rattle.octets.specs.Prelude.{false≢true, ℕ, _≤_, _<_, arith, length, eqb, leb, le-leb, leb-true}
 use Rattle.octets.specs.Outcome.{value, refused}
 use Rattle.octets.proofs.Truth.{both-true}
 use Rattle.octets.proofs.Outcomes.{value-not-refused, test-value}

@@ -1,11 +1,6 @@
 -- The octets that are read of the present message.
 -- Assumes nothing.
-use mathlib.Core.Path.{_≡_, sym, ap, ap₂, _∙_}
-use mathlib.Core.List.{List, _++_}
-use mathlib.Core.Bool.{false}
-use Prim.Native.Nat.{ℕ, _-_, _≤_}
-use native.Mathlib.Omega.{arith}
-use lib.ListN.{length, length-append}
+use Rattle.octets.specs.Prelude.{_≡_, sym, ap, ap₂, _∙_, List, _++_, false, ℕ, _-_, _≤_, arith, length, length-append}
 use Rattle.page.specs.Page.{areaSize, requestsAt, less, advanced, octetsIn}
 use Rattle.ring.specs.Reading.{received, receivedFrom}
 use Rattle.ring.specs.Streams.{beginsWhole, presentPart, Holding}

@@ -1,12 +1,7 @@
 -- The ways that an event can go, each with what is known there.
 -- Assumes nothing.
-use mathlib.Core.Path.{_≡_}
-use mathlib.Core.List.{List}
-use mathlib.Core.Bool.{true, false}
-use Prim.Native.Nat.{ℕ, _-_, _≤_, _<_}
-use lib.ListN.{length}
-use lib.Dec.{eqb, leb}
-use borrow.Author.Tests.{eqb-true, eqb-false, leb-true, leb-false}
+use Rattle.octets.specs.Prelude.{_≡_, List, true, false, ℕ, _-_, _≤_, _<_, length, eqb, leb, eqb-true, eqb-false, leb-true}
+use Rattle.octets.specs.Prelude.{leb-false}
 use Rattle.octets.proofs.Truth.{by-test}
 use Rattle.page.specs.Refusals.{pageWrong, requestsWrong, responsesWrong}
 use Rattle.page.specs.Page.{pageSize, areaSize}

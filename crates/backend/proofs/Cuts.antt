@@ -1,10 +1,7 @@
 -- How the guest cuts its octets into events makes no difference.
 -- Assumes nothing.
-use mathlib.Core.Path.{_≡_, refl, sym, ap, _∙_}
-use mathlib.Core.List.{List, [], _∷_, _++_, append-assoc, append-nil}
-use mathlib.Core.Bool.{true, false}
-use Prim.Native.Nat.{ℕ, _^_, _≤_, _<_}
-use native.Mathlib.Omega.{arith}
+use Rattle.octets.specs.Prelude.{_≡_, refl, sym, ap, _∙_, List, [], _∷_, _++_, append-assoc, append-nil, true, false, ℕ, _^_, _≤_}
+use Rattle.octets.specs.Prelude.{_<_, arith}
 use Rattle.messages.specs.Settings.{maxQueues, settingsAtSetup}
 use Rattle.page.specs.Refusals.{pageWrong, requestsWrong, responsesWrong}
 use Rattle.page.specs.Page.{requestsAt, responsesAt, less, octetsIn}

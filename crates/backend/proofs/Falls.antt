@@ -1,13 +1,8 @@
 -- The messages into which a stream falls.
 -- Assumes nothing.
-use mathlib.Core.Path.{_≡_, refl, sym, ap, ap₂, _∙_}
-use mathlib.Core.List.{List, [], _∷_, _++_, append-assoc, append-nil}
-use mathlib.Core.Bool.{Bool, true, false}
-use Prim.Native.Nat.{ℕ, zero, suc, _+_, _≤_}
-use native.Mathlib.Omega.{arith}
-use lib.ListN.{length, length-append, length-drop, take-append-drop}
-use lib.Seq.{length-take-le, take-all, drop-at}
-use borrow.Author.Tests.{le-leb, lt-leb, leb-true}
+use Rattle.octets.specs.Prelude.{_≡_, refl, sym, ap, ap₂, _∙_, List, [], _∷_, _++_, append-assoc, append-nil, Bool, true, false}
+use Rattle.octets.specs.Prelude.{ℕ, zero, suc, _+_, _≤_, arith, length, length-append, length-drop, take-append-drop}
+use Rattle.octets.specs.Prelude.{length-take-le, take-all, drop-at, le-leb, lt-leb, leb-true}
 use Rattle.messages.specs.Wire.{headerSize, sizeIn}
 use Rattle.messages.specs.Requests.{ackIn, carriedMessage}
 use Rattle.messages.specs.Settings.{Settings}

@@ -1,12 +1,6 @@
 -- Setup gives a good state, and so does every event on a good state.
 -- Assumes nothing.
-use mathlib.Core.Path.{_≡_, refl, _∙_}
-use mathlib.Core.List.{List}
-use mathlib.Core.Bool.{false}
-use Prim.Native.Nat.{ℕ, _-_, _^_, _≤_, _<_}
-use native.Mathlib.Omega.{arith}
-use lib.ListN.{length}
-use borrow.Author.Tests.{ltb-false}
+use Rattle.octets.specs.Prelude.{_≡_, refl, _∙_, List, false, ℕ, _-_, _^_, _≤_, _<_, arith, length, ltb-false}
 use Rattle.messages.specs.Wire.{headerSize, maxPayload, typeIn, sizeIn}
 use Rattle.messages.specs.Requests.{maxAck}
 use Rattle.messages.specs.Settings.{maxQueues, Good as GoodSettings}

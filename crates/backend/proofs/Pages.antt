@@ -1,13 +1,7 @@
 -- The page that an event leaves, and what of the page it does not look at.
 -- Assumes nothing.
-use mathlib.Core.Path.{_≡_, refl, ap, _∙_}
-use mathlib.Core.List.{List}
-use mathlib.Core.Logic.{inl, inr}
-use mathlib.Core.Bool.{Bool, true, false, cond}
-use Prim.Native.Nat.{ℕ, _+_, _-_, _%_, _^_, _≤_, _<_}
-use native.Mathlib.Omega.{arith}
-use lib.ListN.{length, getD, drop, length-take}
-use lib.Dec.{eqb, leb}
+use Rattle.octets.specs.Prelude.{_≡_, refl, ap, _∙_, List, inl, inr, Bool, true, false, cond, ℕ, _+_, _-_, _%_, _^_, _≤_, _<_}
+use Rattle.octets.specs.Prelude.{arith, length, getD, drop, length-take, eqb, leb}
 use Rattle.page.specs.Refusals.{pageWrong, requestsWrong, responsesWrong}
 use Rattle.page.specs.Page.{pageSize, areaSize, reqConsAt, reqProdAt, rspConsAt, rspProdAt, requestsAt, responsesAt}
 use Rattle.page.specs.Page.{countIn, less, counted, octetsIn, put}

@@ -1,11 +1,6 @@
 -- Good settings can be asked for a packet's queue, and each queue that they give is below the queue count.
 -- Assumes nothing.
-use mathlib.Core.Path.{_≡_}
-use mathlib.Core.List.{List}
-use mathlib.Core.Bool.{true}
-use Prim.Native.Nat.{ℕ, _≤_, _<_}
-use lib.ListN.{length, take}
-use lib.Seq.{length-take-le}
+use Rattle.octets.specs.Prelude.{_≡_, List, true, ℕ, _≤_, _<_, length, take, length-take-le}
 use lib.Pow.{pow-pos}
 use Rattle.toeplitz.specs.Hash.{keyLength}
 use Rattle.messages.specs.Settings.{maxEntries, isListed, tableOf, Good}

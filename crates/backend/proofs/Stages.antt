@@ -1,14 +1,9 @@
 -- The stages of an event: octets read, the message carried out, its ack written. Each keeps to the stream.
 -- Assumes nothing.
-use mathlib.Core.Path.{_≡_, refl, sym, ap, ap₂, _∙_}
-use mathlib.Core.List.{List, [], _∷_, _++_, append-assoc, append-nil}
-use mathlib.Core.Bool.{Bool, true, false}
-use Prim.Native.Nat.{ℕ, _+_, _-_, _≤_}
-use native.Mathlib.Omega.{arith}
-use lib.ListN.{length, take, drop, length-take, length-drop, take-append-drop, drop-of-length-le}
-use lib.Seq.{length-take-le, take-all, take-append-le, drop-append-le, drop-drop, getD-take}
-use lib.Dec.{leb}
-use borrow.Author.Tests.{leb-true, leb-false, ltb-false}
+use Rattle.octets.specs.Prelude.{_≡_, refl, sym, ap, ap₂, _∙_, List, [], _∷_, _++_, append-assoc, append-nil, Bool, true, false}
+use Rattle.octets.specs.Prelude.{ℕ, _+_, _-_, _≤_, arith, length, take, drop, length-take, length-drop, take-append-drop}
+use Rattle.octets.specs.Prelude.{drop-of-length-le, length-take-le, take-all, take-append-le, drop-append-le, drop-drop}
+use Rattle.octets.specs.Prelude.{getD-take, leb, leb-true, leb-false, ltb-false}
 use Rattle.octets.proofs.Numbers.{number-same}
 use Rattle.messages.specs.Wire.{headerSize, maxPayload, typeIn, sizeIn, payloadIn}
 use Rattle.messages.specs.Settings.{settingsAtSetup}

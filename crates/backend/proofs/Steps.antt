@@ -1,11 +1,6 @@
 -- The ways of an event, as the definitions say them.
 -- Assumes nothing.
-use mathlib.Core.Path.{_≡_, refl, ap}
-use mathlib.Core.List.{List}
-use mathlib.Core.Bool.{true, false}
-use Prim.Native.Nat.{ℕ, _-_, _≤_, _<_}
-use lib.ListN.{length}
-use borrow.Author.Tests.{eq-eqb, ne-eqb, le-leb, lt-leb}
+use Rattle.octets.specs.Prelude.{_≡_, refl, ap, List, true, false, ℕ, _-_, _≤_, _<_, length, eq-eqb, ne-eqb, le-leb, lt-leb}
 use Rattle.page.specs.Refusals.{pageWrong, requestsWrong, responsesWrong}
 use Rattle.page.specs.Page.{pageSize, areaSize, counted}
 use Rattle.ring.specs.Reading.{whole}

@@ -1,12 +1,7 @@
 -- What readers ask of an event, over the definitions alone. The contract says that the call answers what `eventOf` says;
 -- these say what that means, sentence by sentence of document 01. (The refusals are in `Answers`.)
 -- Assumes nothing.
-use mathlib.Core.Path.{_≡_, refl, sym, ap, _∙_}
-use mathlib.Core.List.{List, _++_}
-use mathlib.Core.Bool.{true, false, false≢true}
-use Prim.Native.Nat.{ℕ, _<_}
-use native.Mathlib.Omega.{arith}
-use lib.ListN.{length}
+use Rattle.octets.specs.Prelude.{_≡_, refl, sym, ap, _∙_, List, _++_, true, false, false≢true, ℕ, _<_, arith, length}
 use Rattle.messages.specs.Wire.{typeIn, sizeIn, success}
 use Rattle.messages.specs.Requests.{ackStatus}
 use Rattle.messages.specs.Settings.{Settings}

@@ -1,10 +1,6 @@
 -- Events one after the other: the stream of octets that they read, the messages into which it falls, and the acks.
 -- Assumes nothing.
-use mathlib.Core.Path.{_≡_}
-use mathlib.Core.List.{List, [], _∷_, _++_}
-use mathlib.Core.Bool.{cond}
-use Prim.Native.Nat.{ℕ, zero, suc, _≤_}
-use lib.ListN.{length, take, drop}
+use Rattle.octets.specs.Prelude.{_≡_, List, [], _∷_, _++_, cond, ℕ, zero, suc, _≤_, length, take, drop}
 use Rattle.messages.specs.Settings.{maxQueues, settingsAtSetup}
 use Rattle.messages.specs.Requests.{ackIn, carriedMessage}
 use Rattle.messages.specs.Settings.{Settings}

@@ -1,9 +1,7 @@
 // The event of an interface's control ring: the counts are checked first, then an ack that is owed goes before
 // anything is read, and a request is carried out once it is whole. The work is done in place, on the parts of an
 // interface as they are lent, so that an event copies only what it moves.
-ghost use mathlib.Core.Path.{_≡_};
-ghost use Prim.Native.Nat.{_^_, _≤_, _<_};
-ghost use lib.ListN.{length, getD};
+ghost use Rattle.octets.specs.Prelude.{_≡_, _^_, _≤_, _<_, length, getD};
 ghost use Rattle.messages.specs.Settings.{Good as GoodSettings};
 ghost use Rattle.page.specs.Page.{pageSize, areaSize};
 ghost use Rattle.interface.specs.States.{Good, settingsIn, interfaceIn};

@@ -1,7 +1,5 @@
 // The packet question of an interface.
-ghost use mathlib.Core.Path.{_≡_};
-ghost use mathlib.Core.Bool.{true};
-ghost use lib.ListN.{take};
+ghost use Rattle.octets.specs.Prelude.{_≡_, true, take};
 ghost use Rattle.messages.specs.Settings.{isListed};
 ghost use Rattle.steering.specs.Steering.{choiceOf, steered};
 use messages::MAX_ENTRIES;

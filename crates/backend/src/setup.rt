@@ -1,5 +1,5 @@
 // A new interface, written in place.
-ghost use mathlib.Core.Path.{_≡_};
+ghost use Rattle.octets.specs.Prelude.{_≡_};
 ghost use Rattle.octets.specs.Outcome.{numberOf, placed, itself};
 ghost use Rattle.interface.specs.States.{interfaceIn, setUpOutcome, setUpNumber};
 use crate::MAX_QUEUES;

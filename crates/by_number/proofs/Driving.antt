@@ -1,8 +1,6 @@
 -- What a call of the guest's end tells by its number, once its answer is known.
 -- Assumes nothing.
-use mathlib.Core.Path.{_≡_, ap, _∙_}
-use mathlib.Core.List.{List}
-use Prim.Native.Nat.{ℕ}
+use Rattle.octets.specs.Prelude.{_≡_, ap, _∙_, List, ℕ}
 use Rattle.guest_steps.specs.Guest.{GuestState, toldNumber, toldOf}
 use Rattle.guest_steps.specs.Calls.{After, left}
 use Rattle.guest_steps.specs.declared.GuestAnswer.{GuestAnswer}

@@ -1,8 +1,6 @@
 -- What an event answered and left, as an exported call tells it.
 -- Assumes nothing.
-use mathlib.Core.Path.{_≡_}
-use mathlib.Core.List.{List}
-use Prim.Native.Nat.{ℕ}
+use Rattle.octets.specs.Prelude.{_≡_, List, ℕ}
 use Rattle.interface.specs.Events.{After, answerNumber, left as leftBy}
 use Rattle.interface.specs.States.{HostState}
 use Rattle.interface.specs.declared.EventAnswer.{EventAnswer}

@@ -1,12 +1,6 @@
 -- What a reader wants of the exported calls, over their definitions.
 -- Assumes nothing.
-use mathlib.Core.Path.{_≡_, refl, ap, _∙_}
-use mathlib.Core.List.{List}
-use mathlib.Core.Bool.{Bool, true, false, cond, _&&_}
-use Prim.Native.Nat.{ℕ, _<_}
-use native.Mathlib.Omega.{arith}
-use lib.Dec.{leb}
-use borrow.Author.Tests.{leb-true}
+use Rattle.octets.specs.Prelude.{_≡_, refl, ap, _∙_, List, Bool, true, false, cond, _&&_, ℕ, _<_, arith, leb, leb-true}
 use Rattle.octets.specs.Outcome.{value, refused, done, numberOf, placed, itself}
 use Rattle.octets.proofs.Truth.{both-true}
 use Rattle.messages.specs.Settings.{maxQueues}

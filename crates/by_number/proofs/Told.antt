@@ -1,8 +1,6 @@
 -- What the writer answered and left, as an exported call tells it.
 -- Assumes nothing.
-use mathlib.Core.Path.{_≡_, ap, _∙_}
-use mathlib.Core.List.{List}
-use Prim.Native.Nat.{ℕ}
+use Rattle.octets.specs.Prelude.{_≡_, ap, _∙_, List, ℕ}
 use Rattle.octets.specs.Outcome.{Outcome, numberOf, placed, itself}
 use Rattle.guest_messages.specs.Writer.{After, written, writtenOutcomeOf, after}
 use Rattle.guest_messages.specs.declared.Written.{Written}

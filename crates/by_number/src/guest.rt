@@ -1,5 +1,5 @@
 // The answers of the guest's end by their numbers.
-ghost use mathlib.Core.Path.{_≡_};
+ghost use Rattle.octets.specs.Prelude.{_≡_};
 ghost use Rattle.guest_steps.specs.Guest.{toldNumber, refusalNumber, toldOf};
 ghost use Rattle.by_number.specs.Answers.{statusOfTold, flagsOfTold};
 use crate::PAGE_LENGTH;

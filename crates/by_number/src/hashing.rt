@@ -1,5 +1,5 @@
 // The hash and the two-way question.
-ghost use mathlib.Core.Path.{_≡_};
+ghost use Rattle.octets.specs.Prelude.{_≡_};
 ghost use Rattle.octets.specs.Outcome.{numberOf, placed, itself};
 ghost use Rattle.toeplitz.specs.Hash.{hashOutcome};
 ghost use Rattle.toeplitz.specs.TwoWay.{twoWayOutcome};

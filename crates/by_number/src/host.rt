@@ -1,5 +1,5 @@
 // The answers of the host by their numbers, and the packet question of an interface whose parts are lent.
-ghost use mathlib.Core.Path.{_≡_};
+ghost use Rattle.octets.specs.Prelude.{_≡_};
 ghost use Rattle.messages.specs.Settings.{Good as GoodSettings};
 ghost use Rattle.interface.specs.States.{settingsIn, setUpNumber, steeredBy};
 ghost use Rattle.interface.specs.Events.{answerNumber};

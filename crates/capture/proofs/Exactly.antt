@@ -1,15 +1,8 @@
 -- The records of a capture are exactly those that its octets hold, one after the other behind the capture's header.
 -- Assumes nothing.
-use mathlib.Core.Path.{_≡_, refl, sym, ap, subst, _∙_}
-use mathlib.Core.List.{List, [], _∷_, _++_}
-use mathlib.Core.Bool.{Bool, true, false}
-use mathlib.Core.Logic.{_↔_}
-use Prim.Native.Nat.{ℕ, zero, suc, _+_, _-_, _≤_}
-use native.Mathlib.Omega.{arith}
-use lib.ListN.{length, take, drop, length-append, length-drop, take-append-drop}
-use lib.Seq.{length-take-le, drop-drop, take-at, drop-at}
-use lib.Dec.{eqb}
-use borrow.Author.Tests.{eqb-true}
+use Rattle.octets.specs.Prelude.{_≡_, refl, sym, ap, subst, _∙_, List, [], _∷_, _++_, Bool, true, false, _↔_, ℕ, zero, suc, _+_}
+use Rattle.octets.specs.Prelude.{_-_, _≤_, arith, length, take, drop, length-append, length-drop, take-append-drop}
+use Rattle.octets.specs.Prelude.{length-take-le, drop-drop, take-at, drop-at, eqb, eqb-true}
 use Rattle.octets.specs.Outcome.{value}
 use Rattle.octets.proofs.Outcomes.{test-value}
 use Rattle.capture.specs.Header.{captureHeader, orderOf}

@@ -1,13 +1,7 @@
 -- The records into which octets fall: one after the other, whatever number of steps is allowed.
 -- Assumes nothing.
-use mathlib.Core.Path.{_≡_, refl, sym, ap, _∙_}
-use mathlib.Core.List.{List}
-use mathlib.Core.Bool.{true, false, cond}
-use mathlib.Core.Logic.{inr}
-use Prim.Native.Nat.{ℕ, zero, suc, _+_, _-_, _≤_}
-use native.Mathlib.Omega.{arith}
-use lib.ListN.{length, length-drop}
-use borrow.Author.Tests.{leb-true}
+use Rattle.octets.specs.Prelude.{_≡_, refl, sym, ap, _∙_, List, true, false, cond, inr, ℕ, zero, suc, _+_, _-_, _≤_, arith}
+use Rattle.octets.specs.Prelude.{length, length-drop, leb-true}
 use Rattle.octets.proofs.Truth.{both-true}
 use Rattle.capture.specs.Records.{recordHeader, maxRecord, capturedLength, beginsRecord, firstRecord, behindRecord}
 use Rattle.capture.specs.Records.{Fall, noRecord, oneMore, fallWithin, fallOf}

@@ -1,14 +1,7 @@
 -- What the step at a place of a capture says of the records from there on.
 -- Assumes nothing.
-use mathlib.Core.Path.{_≡_, refl, sym, ap, _∙_}
-use mathlib.Core.List.{List, []}
-use mathlib.Core.Bool.{Bool, true, false, cond}
-use Prim.Native.Nat.{ℕ, _+_, _-_, _≤_}
-use native.Mathlib.Omega.{arith}
-use lib.ListN.{length, take, drop, length-drop, drop-of-length-le}
-use lib.Seq.{drop-drop}
-use lib.Dec.{eqb}
-use borrow.Author.Tests.{eqb-true}
+use Rattle.octets.specs.Prelude.{_≡_, refl, sym, ap, _∙_, List, [], Bool, true, false, cond, ℕ, _+_, _-_, _≤_, arith, length}
+use Rattle.octets.specs.Prelude.{take, drop, length-drop, drop-of-length-le, drop-drop, eqb, eqb-true}
 use Rattle.octets.specs.Outcome.{value, refused}
 use Rattle.octets.proofs.Outcomes.{value-same, value-not-refused}
 use Rattle.capture.specs.Header.{orderOf}

@@ -1,11 +1,6 @@
 -- The IP packet in an Ethernet frame.
 -- Assumes nothing.
-use mathlib.Core.Path.{_≡_, refl}
-use mathlib.Core.List.{List, []}
-use mathlib.Core.Bool.{true, false}
-use Prim.Native.Nat.{ℕ, _≤_}
-use lib.ListN.{length, drop}
-use borrow.Author.Tests.{leb-true}
+use Rattle.octets.specs.Prelude.{_≡_, refl, List, [], true, false, ℕ, _≤_, length, drop, leb-true}
 use Rattle.octets.proofs.Truth.{both-true}
 use Rattle.capture.specs.Packets.{ethernetHeader, holdsIp, ipPart}
 use Rattle.capture.specs.declared.Link.the-variants.{Ethernet}

@@ -1,11 +1,6 @@
 -- What the header of a capture is found to be, test by test.
 -- Assumes nothing.
-use mathlib.Core.Path.{_≡_, refl}
-use mathlib.Core.List.{List}
-use mathlib.Core.Bool.{true, false}
-use Prim.Native.Nat.{ℕ, _≤_, _<_}
-use lib.ListN.{length}
-use borrow.Author.Tests.{le-leb, lt-leb}
+use Rattle.octets.specs.Prelude.{_≡_, refl, List, true, false, ℕ, _≤_, _<_, length, le-leb, lt-leb}
 use Rattle.octets.specs.Outcome.{refused}
 use Rattle.capture.specs.Header.{headerWrong, captureHeader, numberIn, orderOf, isClassic, linkOutcome, headerOutcome}
 use Rattle.capture.specs.declared.Order.{Order}

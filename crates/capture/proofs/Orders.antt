@@ -1,12 +1,7 @@
 -- Laws of numbers in either order of octets.
 -- Assumes nothing.
-use mathlib.Core.Path.{_≡_, refl, ap₂}
-use mathlib.Core.List.{List, _++_}
-use Prim.Native.Nat.{ℕ, zero, suc, _+_, _*_, _^_, _≤_, _<_}
-use native.Mathlib.Nat.{add-zero, add-assoc}
-use native.Mathlib.Omega.{arith}
-use lib.ListN.{length, getD, take, drop, List·getD-append}
-use lib.Seq.{getD-take, getD-drop}
+use Rattle.octets.specs.Prelude.{_≡_, refl, ap₂, List, _++_, ℕ, zero, suc, _+_, _*_, _^_, _≤_, _<_, add-zero, add-assoc, arith}
+use Rattle.octets.specs.Prelude.{length, getD, take, drop, List·getD-append, getD-take, getD-drop}
 use Rattle.octets.specs.Numbers.{numberAt}
 use Rattle.octets.proofs.Numbers.{number-same}
 use Rattle.capture.specs.Header.{bigEndianAt, numberIn}

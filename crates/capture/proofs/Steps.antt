@@ -1,14 +1,7 @@
 -- What stands at a place of a capture, by the lengths there.
 -- Assumes nothing.
-use mathlib.Core.Path.{_≡_, refl, sym, ap, _∙_}
-use mathlib.Core.List.{List}
-use mathlib.Core.Bool.{true, false, _&&_}
-use mathlib.Core.Logic.{_⊎_, inl, inr}
-use Prim.Native.Nat.{ℕ, _+_, _-_, _≤_, _<_}
-use native.Mathlib.Omega.{arith}
-use lib.ListN.{length, drop, length-drop}
-use lib.Dec.{leb}
-use borrow.Author.Tests.{le-leb, lt-leb, eq-eqb, ne-eqb}
+use Rattle.octets.specs.Prelude.{_≡_, refl, sym, ap, _∙_, List, true, false, _&&_, _⊎_, inl, inr, ℕ, _+_, _-_, _≤_, _<_, arith}
+use Rattle.octets.specs.Prelude.{length, drop, length-drop, leb, le-leb, lt-leb, eq-eqb, ne-eqb}
 use Rattle.octets.specs.Outcome.{value, refused}
 use Rattle.capture.specs.Header.{numberIn, orderOf}
 use Rattle.capture.specs.Records.{recordWrong, recordHeader, maxRecord, capturedLength, beginsRecord, noMore, between, stepIn, stepAt}

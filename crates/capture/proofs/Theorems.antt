@@ -1,12 +1,7 @@
 -- What readers ask of captures, over the definitions alone.
 -- Assumes nothing.
-use mathlib.Core.Path.{_≡_, refl}
-use mathlib.Core.List.{List}
-use mathlib.Core.Bool.{Bool, true, false}
-use Prim.Native.Nat.{ℕ, zero, suc, _+_, _-_, _*_, _≤_}
-use native.Mathlib.Omega.{arith}
-use lib.ListN.{length, length-drop, drop}
-use lib.Seq.{length-take-le}
+use Rattle.octets.specs.Prelude.{_≡_, refl, List, Bool, true, false, ℕ, zero, suc, _+_, _-_, _*_, _≤_, arith, length, length-drop}
+use Rattle.octets.specs.Prelude.{drop, length-take-le}
 use Rattle.capture.specs.Records.{recordHeader, capturedLength, beginsRecord, firstRecord, behindRecord}
 use Rattle.capture.specs.Records.{Fall, fallWithin, fallOf, capturedOctets}
 use Rattle.capture.specs.declared.Order.{Order}

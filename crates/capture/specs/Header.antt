@@ -3,11 +3,7 @@
 --   16 snapshot length (4)   20 link type (4)
 -- Its numbers, and those of every record's header, are in the order in which the magic number was written.
 -- Assumes nothing.
-use mathlib.Core.List.{List}
-use mathlib.Core.Bool.{Bool, cond, _&&_}
-use Prim.Native.Nat.{ℕ, zero, suc, _+_, _*_, _^_}
-use lib.ListN.{length, getD}
-use lib.Dec.{eqb, leb}
+use Rattle.octets.specs.Prelude.{List, Bool, cond, _&&_, ℕ, zero, suc, _+_, _*_, _^_, length, getD, eqb, leb}
 use Rattle.octets.specs.Outcome.{Outcome, value, refused}
 use Rattle.octets.specs.Numbers.{numberAt}
 use Rattle.capture.specs.declared.Order.{Order}

@@ -1,10 +1,6 @@
 -- The IP packet in a record.
 -- Assumes nothing.
-use mathlib.Core.List.{List, []}
-use mathlib.Core.Bool.{Bool, cond, _&&_, _||_}
-use Prim.Native.Nat.{ℕ}
-use lib.ListN.{length, drop}
-use lib.Dec.{eqb, leb}
+use Rattle.octets.specs.Prelude.{List, [], Bool, cond, _&&_, _||_, ℕ, length, drop, eqb, leb}
 use Rattle.capture.specs.Header.{bigEndianAt}
 use Rattle.capture.specs.declared.Link.{Link}
 use Rattle.capture.specs.declared.Link.the-variants.{Ethernet, Raw}

@@ -2,12 +2,7 @@
 -- captured octets:
 --   0 seconds (4)   4 microseconds (4)   8 captured length (4)   12 original length (4)   16 captured octets
 -- Assumes nothing.
-use mathlib.Core.Path.{_≡_}
-use mathlib.Core.List.{List, [], _∷_, _++_}
-use mathlib.Core.Bool.{Bool, cond, _&&_}
-use Prim.Native.Nat.{ℕ, zero, suc, _+_, _≤_}
-use lib.ListN.{length, take, drop}
-use lib.Dec.{eqb, leb}
+use Rattle.octets.specs.Prelude.{_≡_, List, [], _∷_, _++_, Bool, cond, _&&_, ℕ, zero, suc, _+_, _≤_, length, take, drop, eqb, leb}
 use Rattle.octets.specs.Outcome.{Outcome, value, refused}
 use Rattle.capture.specs.Header.{captureHeader, numberIn, orderOf}
 use Rattle.capture.specs.declared.Order.{Order}

@@ -1,7 +1,5 @@
 // The header of a capture: 24 octets, of which four fields are looked at.
-ghost use mathlib.Core.Path.{_≡_};
-ghost use Prim.Native.Nat.{_≤_};
-ghost use lib.ListN.{length};
+ghost use Rattle.octets.specs.Prelude.{_≡_, _≤_, length};
 ghost use Rattle.capture.specs.Header.{captureHeader, orderOf, isClassic, linkOutcome, headerOutcome, headerOutcomeOf};
 use crate::CAPTURE_HEADER;
 use crate::HeaderAnswer;

@@ -1,7 +1,5 @@
 // Numbers in the order of the capture.
-ghost use mathlib.Core.Path.{_≡_};
-ghost use Prim.Native.Nat.{_+_, _≤_};
-ghost use lib.ListN.{length};
+ghost use Rattle.octets.specs.Prelude.{_≡_, _+_, _≤_, length};
 ghost use Rattle.capture.specs.Header.{numberIn};
 use crate::Order;
 

@@ -1,5 +1,5 @@
 // The IP packet in a record.
-ghost use mathlib.Core.Path.{_≡_};
+ghost use Rattle.octets.specs.Prelude.{_≡_};
 ghost use Rattle.capture.specs.Packets.{holdsIp, ipPart};
 use crate::Link;
 use crate::Order;

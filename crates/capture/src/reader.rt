@@ -1,6 +1,6 @@
 // The reader that goes from record to record: a struct that holds the octets of a capture and its place in them. The
 // functions over it are thin; the work is done by `step_at`, on a slice and a number.
-ghost use mathlib.Core.Path.{_≡_};
+ghost use Rattle.octets.specs.Prelude.{_≡_};
 ghost use Rattle.capture.specs.Header.{captureHeader};
 ghost use Rattle.capture.specs.Records.{stepAt, stepOutcomeOf};
 use crate::CAPTURE_HEADER;

@@ -1,5 +1,5 @@
 // One record: a header of 16 octets, of which only the captured length is looked at, and the captured octets.
-ghost use mathlib.Core.Path.{_≡_};
+ghost use Rattle.octets.specs.Prelude.{_≡_};
 ghost use Rattle.capture.specs.Records.{stepAt, stepOutcomeOf};
 use crate::MAX_RECORD;
 use crate::RECORD_HEADER;

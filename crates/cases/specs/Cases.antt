@@ -1,6 +1,6 @@
 -- Where the body of a case stands.
 -- Assumes nothing.
-use Prim.Native.Nat.{ℕ, _≤_, _<_}
+use Rattle.octets.specs.Prelude.{ℕ, _≤_, _<_}
 use Rattle.cases.specs.declared.Case.{Case}
 use Rattle.cases.specs.declared.Case.the-variants.{Body, Cut}
 

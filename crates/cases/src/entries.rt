@@ -1,5 +1,5 @@
 // The entries of a mapping that a case gives.
-ghost use Prim.Native.Nat.{_≤_};
+ghost use Rattle.octets.specs.Prelude.{_≤_};
 
 // The most entries of a case.
 pub const MAX_GIVEN: usize = 256;

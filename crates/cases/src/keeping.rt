@@ -1,6 +1,5 @@
 // What a program needs again behind the case that gave it: the next case may be in another file, so it is copied.
-ghost use Prim.Native.Nat.{_≤_};
-ghost use lib.ListN.{length};
+ghost use Rattle.octets.specs.Prelude.{_≤_, length};
 use crate::print::print_cut;
 
 // Copies the body of a case to the start of the buffer, and answers how many octets it has; none where it does not fit.

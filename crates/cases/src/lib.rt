@@ -1,7 +1,6 @@
 // The files that the test programs run, `cases0`, `cases1` and so on: cases one after the other, none of them in two
 // files. A case is its kind, an octet, the length of its body, two octets, and the body.
-ghost use Prim.Native.Nat.{_+_, _≤_, _<_};
-ghost use lib.ListN.{length};
+ghost use Rattle.octets.specs.Prelude.{_+_, _≤_, _<_, length};
 ghost use Rattle.io.specs.Counts.{Counts};
 ghost use Rattle.cases.specs.Cases.{Within};
 

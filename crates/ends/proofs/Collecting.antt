@@ -1,13 +1,7 @@
 -- The guest's turn at the ack: it reads the whole of it, and is idle again.
 -- Assumes nothing.
-use mathlib.Core.Path.{_≡_, refl, sym, ap, ap₂, subst, _∙_}
-use mathlib.Core.List.{List, [], _++_}
-use mathlib.Core.Logic.{inl, inr}
-use mathlib.Core.Bool.{false}
-use Prim.Native.Nat.{ℕ, _+_, _-_}
-use native.Mathlib.Omega.{arith}
-use lib.ListN.{length, List·getD-append}
-use borrow.Author.Tests.{le-ltb}
+use Rattle.octets.specs.Prelude.{_≡_, refl, sym, ap, ap₂, subst, _∙_, List, [], _++_, inl, inr, false, ℕ, _+_, _-_, arith, length}
+use Rattle.octets.specs.Prelude.{List·getD-append, le-ltb}
 use Rattle.octets.specs.Outcome.{value}
 use Rattle.octets.proofs.Numbers.{number-same}
 use Rattle.messages.specs.Wire.{typeIn, sizeIn, payloadIn}

@@ -1,14 +1,9 @@
 -- The host's turn: it reads on, or it carries the request out and writes the whole ack.
 -- Assumes nothing.
-use mathlib.Core.Path.{_≡_, refl, sym, ap, ap₂, subst, subst₂, _∙_}
-use mathlib.Core.List.{List, [], _++_}
-use mathlib.Core.Bool.{Bool, true, false}
-use Prim.Native.Nat.{ℕ, _+_, _-_, _^_, _≤_, _<_}
-use native.Mathlib.Omega.{arith}
-use lib.ListN.{length, take, drop}
-use lib.Seq.{length-take-le, take-all, take-add}
-use lib.Dec.{ltb}
-use borrow.Author.Tests.{eq-eqb, le-leb, lt-leb, le-ltb, ltb-true, ltb-false}
+use Rattle.octets.specs.Prelude.{_≡_, refl, sym, ap, ap₂, subst, _∙_, List, [], _++_, Bool, true, false, ℕ, _+_, _-_, _^_, _≤_}
+use Rattle.octets.specs.Prelude.{_<_, arith, length, take, drop, length-take-le, take-all, take-add, ltb, eq-eqb, le-leb, lt-leb}
+use Rattle.octets.specs.Prelude.{le-ltb, ltb-true, ltb-false}
+use mathlib.Core.Path.{subst₂}
 use Rattle.messages.specs.Wire.{headerSize, typeIn, sizeIn}
 use Rattle.messages.specs.Requests.{maxAck, ackIn, carriedMessage}
 use Rattle.messages.specs.Requests.{Carried}

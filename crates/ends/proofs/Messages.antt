@@ -1,15 +1,8 @@
 -- Messages of the writer, and acks, as whole messages that are read.
 -- Assumes nothing.
-use mathlib.Core.Path.{_≡_, refl, sym, ap, ap₂, _∙_}
-use mathlib.Core.List.{List, [], _++_}
-use mathlib.Core.Bool.{Bool, true, false, cond, _||_}
-use Prim.Native.Nat.{ℕ, _+_, _-_, _^_, _≤_, _<_}
-use native.Mathlib.Nat.{zero-add}
-use native.Mathlib.Omega.{arith}
-use lib.ListN.{length, take, drop, length-append, length-drop, take-append-drop}
-use lib.Seq.{sets, sets-eq, length-take-le, take-at}
-use lib.Dec.{eqb, leb}
-use borrow.Author.Tests.{le-leb}
+use Rattle.octets.specs.Prelude.{_≡_, refl, sym, ap, ap₂, _∙_, List, [], _++_, Bool, true, false, cond, _||_, ℕ, _+_, _-_, _^_}
+use Rattle.octets.specs.Prelude.{_≤_, _<_, zero-add, arith, length, take, drop, length-append, length-drop, take-append-drop}
+use Rattle.octets.specs.Prelude.{sets, sets-eq, length-take-le, take-at, eqb, leb, le-leb}
 use Rattle.octets.specs.Numbers.{octetsOf}
 use Rattle.octets.specs.Outcome.{Outcome, value}
 use Rattle.octets.proofs.Outcomes.{value-same, test-value}

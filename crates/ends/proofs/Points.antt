@@ -1,10 +1,6 @@
 -- Where the two ends stand between their turns, while a request is under way.
 -- Assumes nothing.
-use mathlib.Core.Path.{_≡_}
-use mathlib.Core.List.{List, _++_}
-use mathlib.Core.Bool.{false}
-use Prim.Native.Nat.{ℕ, _-_, _^_, _<_}
-use lib.ListN.{length, take, drop}
+use Rattle.octets.specs.Prelude.{_≡_, List, _++_, false, ℕ, _-_, _^_, _<_, length, take, drop}
 use Rattle.messages.specs.Wire.{headerSize}
 use Rattle.page.specs.Page.{pageSize, reqConsAt, reqProdAt, rspConsAt, rspProdAt, requestsAt, responsesAt, countIn, advanced, octetsIn}
 use Rattle.ring.specs.Streams.{Holding}

@@ -1,10 +1,6 @@
 -- Rounds of a request under way: one in which the rest of it is written, and the last, in which it is answered.
 -- Assumes nothing.
-use mathlib.Core.Path.{_≡_}
-use mathlib.Core.List.{List, []}
-use Prim.Native.Nat.{ℕ, _+_, _-_, _≤_, _<_}
-use native.Mathlib.Omega.{arith}
-use lib.ListN.{length}
+use Rattle.octets.specs.Prelude.{_≡_, List, [], ℕ, _+_, _-_, _≤_, _<_, arith, length}
 use Rattle.messages.specs.Requests.{carriedMessage}
 use Rattle.page.specs.Page.{areaSize}
 use Rattle.ring.specs.Reading.{messageLength}

@@ -1,13 +1,8 @@
 -- The two ends together: every request that the writer accepts is answered as carrying it out says, one after the other.
 -- Assumes nothing.
-use mathlib.Core.Path.{_≡_, refl, ap, ap₂, _∙_}
-use mathlib.Core.List.{List, [], _∷_}
-use mathlib.Core.Bool.{Bool, true, false, cond}
-use Prim.Native.Nat.{ℕ, _+_, _≤_, _<_}
-use native.Mathlib.Omega.{arith}
-use lib.ListN.{length, replicate, length-replicate, getD-replicate}
-use lib.Dec.{leb}
-use borrow.Author.Tests.{leb-true, leb-false}
+use Rattle.octets.specs.Prelude.{_≡_, refl, ap, ap₂, _∙_, List, [], _∷_, Bool, true, false, cond, ℕ, _+_, _≤_, _<_, arith, length}
+use Rattle.octets.specs.Prelude.{replicate, length-replicate, leb, leb-true, leb-false}
+use lib.ListN.{getD-replicate}
 use Rattle.octets.specs.Outcome.{value}
 use Rattle.octets.specs.Numbers.{numberAt}
 use Rattle.octets.proofs.Numbers.{number-same}

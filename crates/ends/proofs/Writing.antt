@@ -1,14 +1,8 @@
 -- What the guest finds on the page, and a request that it writes.
 -- Assumes nothing.
-use mathlib.Core.Path.{_≡_, refl, sym, ap, ap₂, subst, _∙_}
-use mathlib.Core.List.{List, _++_}
-use mathlib.Core.Bool.{true, false}
-use Prim.Native.Nat.{ℕ, _+_, _-_, _≤_, _<_, min}
-use native.Mathlib.Omega.{arith}
-use lib.ListN.{length, take, drop, length-drop}
-use lib.Seq.{length-take-le, take-append-le, drop-append-le}
-use lib.Dec.{eqb}
-use borrow.Author.Tests.{eq-eqb, le-leb, lt-ltb, le-ltb}
+use Rattle.octets.specs.Prelude.{_≡_, refl, sym, ap, ap₂, subst, _∙_, List, _++_, true, false, ℕ, _+_, _-_, _≤_, _<_, min, arith}
+use Rattle.octets.specs.Prelude.{length, take, drop, length-drop, length-take-le, take-append-le, drop-append-le, eqb, eq-eqb}
+use Rattle.octets.specs.Prelude.{le-leb, lt-ltb, le-ltb}
 use Rattle.octets.specs.Outcome.{value}
 use Rattle.page.specs.Page.{pageSize, areaSize, requestsAt, advanced, octetsIn, put}
 use Rattle.ring.specs.Writing.{fitting, sentOctets}

@@ -1,11 +1,6 @@
 -- The two ends of a ring and the page between them: the guest starts a request, and then host and guest take turns.
 -- Assumes nothing.
-use mathlib.Core.Path.{_≡_}
-use mathlib.Core.List.{List, [], _∷_}
-use mathlib.Core.Bool.{false, cond}
-use Prim.Native.Nat.{ℕ, zero, suc}
-use lib.ListN.{length, replicate}
-use lib.Dec.{leb}
+use Rattle.octets.specs.Prelude.{_≡_, List, [], _∷_, false, cond, ℕ, zero, suc, length, replicate, leb}
 use Rattle.octets.specs.Outcome.{Outcome, value}
 use Rattle.messages.specs.Wire.{typeIn}
 use Rattle.messages.specs.Requests.{requestOf, ackStatus, carriedMessage}

@@ -1,6 +1,5 @@
 // What the guest does to the page between the calls.
-ghost use mathlib.Core.Path.{_≡_};
-ghost use lib.ListN.{length};
+ghost use Rattle.octets.specs.Prelude.{_≡_, length};
 use crate::COUNTS;
 use cases::fill;
 use cases::patch;

@@ -1,7 +1,6 @@
 // Runs the cases of its files, one file after the other, and prints a line for each setup, event and packet. They act on one
 // interface and one page, one after the other. The parts of the interface stand in `main`, and are lent.
-ghost use mathlib.Core.Path.{_≡_};
-ghost use lib.ListN.{length};
+ghost use Rattle.octets.specs.Prelude.{_≡_, length};
 ghost use Rattle.messages.specs.Settings.{Good as GoodSettings};
 ghost use Rattle.interface.specs.States.{Good, settingsIn, interfaceIn};
 

@@ -1,14 +1,8 @@
 -- What the functions that collect an ack did, as the definitions say it.
 -- Assumes nothing.
-use mathlib.Core.Path.{_≡_, refl, ap}
-use mathlib.Core.List.{List, [], _++_, append-nil}
-use mathlib.Core.Bool.{true, false}
-use Prim.Native.Nat.{ℕ, _+_, _≤_, _<_}
-use native.Mathlib.Omega.{arith}
-use lib.ListN.{length, take, drop, drop-of-length-le}
-use lib.Seq.{take-at, drop-at, take-append-add}
+use Rattle.octets.specs.Prelude.{_≡_, refl, ap, List, [], _++_, append-nil, true, false, ℕ, _+_, _≤_, _<_, arith, length, take}
+use Rattle.octets.specs.Prelude.{drop, drop-of-length-le, take-at, drop-at, take-append-add, eq-eqb, ne-eqb, le-leb, lt-leb}
 use borrow.Rule.Slice.PartMut.{putMid}
-use borrow.Author.Tests.{eq-eqb, ne-eqb, le-leb, lt-leb}
 use Rattle.octets.specs.Outcome.{value, refused}
 use Rattle.messages.specs.Wire.{headerSize, fieldSize, typeIn, sizeIn}
 use Rattle.page.specs.Page.{responsesAt, countedByGuest}

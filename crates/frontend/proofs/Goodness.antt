@@ -1,13 +1,7 @@
 -- Setup gives a good guest, and so does every call on a good one.
 -- Assumes nothing.
-use mathlib.Core.Path.{_≡_, refl, ap, _∙_}
-use mathlib.Core.List.{List, _++_}
-use mathlib.Core.Bool.{Bool, true, false, cond}
-use Prim.Native.Nat.{ℕ, _^_, _≤_, _<_}
-use native.Mathlib.Omega.{arith}
-use lib.ListN.{length, drop, length-append, length-drop}
-use lib.Dec.{eqb, leb}
-use borrow.Author.Tests.{eqb-true, eqb-false, ltb-false}
+use Rattle.octets.specs.Prelude.{_≡_, refl, ap, _∙_, List, _++_, Bool, true, false, cond, ℕ, _^_, _≤_, _<_, arith, length, drop}
+use Rattle.octets.specs.Prelude.{length-append, length-drop, eqb, leb, eqb-true, eqb-false, ltb-false}
 use Rattle.octets.specs.Numbers.{octetsOf}
 use Rattle.octets.specs.Outcome.{Outcome, value, refused}
 use Rattle.octets.proofs.Truth.{by-test}

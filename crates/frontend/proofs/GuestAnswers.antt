@@ -1,13 +1,7 @@
 -- Which number a call of the guest's end answers, each exactly where its condition holds, over the definitions alone.
 -- Assumes nothing.
-use mathlib.Core.Path.{_≡_, refl, sym, ap, _∙_}
-use mathlib.Core.List.{List}
-use mathlib.Core.Logic.{_↔_, _⊎_, inl, inr}
-use mathlib.Core.Bool.{Bool, true, false, cond, false≢true}
-use Prim.Native.Nat.{ℕ, _≤_, _<_}
-use native.Mathlib.Omega.{arith}
-use lib.ListN.{length}
-use lib.Dec.{eqb, leb}
+use Rattle.octets.specs.Prelude.{_≡_, refl, sym, ap, _∙_, List, _↔_, _⊎_, inl, inr, Bool, true, false, cond, false≢true, ℕ, _≤_}
+use Rattle.octets.specs.Prelude.{_<_, arith, length, eqb, leb}
 use Rattle.octets.specs.Outcome.{Outcome, value, refused}
 use Rattle.octets.proofs.Outcomes.{refused-same, value-not-refused, test-refused}
 use Rattle.toeplitz.specs.Hash.{keyLength}

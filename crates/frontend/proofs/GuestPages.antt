@@ -1,14 +1,7 @@
 -- The page under the guest's calls: what is written, what is left, and what is read.
 -- Assumes nothing.
-use mathlib.Core.Path.{_≡_, refl, sym, ap, subst, _∙_}
-use mathlib.Core.List.{List}
-use mathlib.Core.Logic.{_⊎_, inl, inr}
-use mathlib.Core.Bool.{Bool, true, false, cond}
-use Prim.Native.Nat.{ℕ, _+_, _%_, _^_, _≤_, _<_}
-use native.Mathlib.Omega.{arith}
-use lib.ListN.{length, getD, drop, length-take, length-drop}
-use lib.Seq.{length-take-le}
-use lib.Dec.{eqb}
+use Rattle.octets.specs.Prelude.{_≡_, refl, sym, ap, subst, _∙_, List, _⊎_, inl, inr, Bool, true, false, cond, ℕ, _+_, _%_, _^_}
+use Rattle.octets.specs.Prelude.{_≤_, _<_, arith, length, getD, drop, length-take, length-drop, length-take-le, eqb}
 use Rattle.octets.specs.Outcome.{Outcome, value, refused}
 use Rattle.toeplitz.specs.Refusals.{keyLengthWrong}
 use Rattle.page.specs.Page.{pageSize, areaSize, reqConsAt, reqProdAt, rspConsAt, rspProdAt, requestsAt, responsesAt, countIn}

@@ -1,11 +1,6 @@
 -- What readers ask of the guest's end, over the definitions of its calls alone.
 -- Assumes nothing.
-use mathlib.Core.Path.{_≡_, refl, sym, ap, _∙_}
-use mathlib.Core.List.{List}
-use mathlib.Core.Bool.{true, false, false≢true}
-use Prim.Native.Nat.{ℕ, _+_, _≤_, _<_}
-use native.Mathlib.Omega.{arith}
-use borrow.Author.Tests.{le-leb, ne-eqb}
+use Rattle.octets.specs.Prelude.{_≡_, refl, sym, ap, _∙_, List, true, false, false≢true, ℕ, _+_, _≤_, _<_, arith, le-leb, ne-eqb}
 use Rattle.octets.specs.Outcome.{Outcome, value, refused}
 use Rattle.messages.specs.Wire.{headerSize, fieldSize, typeIn, sizeIn}
 use Rattle.ring.specs.Reading.{whole}

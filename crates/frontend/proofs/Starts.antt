@@ -1,13 +1,7 @@
 -- What a start does, by what it finds and by what the writer answers.
 -- Assumes nothing.
-use mathlib.Core.Path.{_≡_, refl, sym, ap, _∙_}
-use mathlib.Core.List.{List, _++_}
-use mathlib.Core.Bool.{Bool, true, false, cond}
-use Prim.Native.Nat.{ℕ, _+_, _-_, _≤_, _<_}
-use native.Mathlib.Omega.{arith}
-use lib.ListN.{length, getD, set, drop}
-use lib.Dec.{eqb, leb, ltb}
-use borrow.Author.Tests.{eq-eqb, ne-eqb, le-leb, lt-leb, leb-false}
+use Rattle.octets.specs.Prelude.{_≡_, refl, sym, ap, _∙_, List, _++_, Bool, true, false, cond, ℕ, _+_, _-_, _≤_, _<_, arith}
+use Rattle.octets.specs.Prelude.{length, getD, set, drop, eqb, leb, ltb, eq-eqb, ne-eqb, le-leb, lt-leb, leb-false}
 use Rattle.octets.specs.Outcome.{Outcome, value, refused}
 use Rattle.octets.proofs.Outcomes.{value-same, refused-same, value-not-refused, test-value}
 use Rattle.octets.proofs.Truth.{by-test}

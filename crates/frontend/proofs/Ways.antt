@@ -1,13 +1,7 @@
 -- The ways that a call of the guest's end can go, each with what is known there.
 -- Assumes nothing.
-use mathlib.Core.Path.{_≡_, refl, sym}
-use mathlib.Core.List.{List}
-use mathlib.Core.Bool.{Bool, true, false, cond}
-use Prim.Native.Nat.{ℕ, _≤_, _<_}
-use native.Mathlib.Omega.{arith}
-use lib.ListN.{length}
-use lib.Dec.{eqb, leb}
-use borrow.Author.Tests.{eqb-true, eqb-false, leb-true, leb-false}
+use Rattle.octets.specs.Prelude.{_≡_, refl, sym, List, Bool, true, false, cond, ℕ, _≤_, _<_, arith, length, eqb, leb, eqb-true}
+use Rattle.octets.specs.Prelude.{eqb-false, leb-true, leb-false}
 use Rattle.octets.specs.Outcome.{Outcome, value, refused}
 use Rattle.octets.proofs.Truth.{by-test}
 use Rattle.octets.proofs.Outcomes.{value-same, refused-same, value-not-refused}

@@ -1,11 +1,6 @@
 -- What the theorems on the guest's calls speak of.
 -- Assumes nothing.
-use mathlib.Core.Path.{_≡_}
-use mathlib.Core.List.{List}
-use mathlib.Core.Logic.{_⊎_}
-use mathlib.Core.Bool.{true, false}
-use Prim.Native.Nat.{ℕ, _+_, _-_, _%_, _≤_, _<_}
-use lib.ListN.{length}
+use Rattle.octets.specs.Prelude.{_≡_, List, _⊎_, true, false, ℕ, _+_, _-_, _%_, _≤_, _<_, length}
 use Rattle.octets.specs.Outcome.{Outcome, refused}
 use Rattle.messages.specs.Wire.{typeIn}
 use Rattle.page.specs.Page.{pageSize, areaSize, reqProdAt, rspProdAt, requestsAt, responsesAt, less, octetsIn}

@@ -1,9 +1,6 @@
 // The event of the guest's end, on the parts of a guest as they are lent: octets of the request that are owed go first, and
 // once all are written the ack is collected.
-ghost use mathlib.Core.Path.{_≡_};
-ghost use mathlib.Core.Bool.{false};
-ghost use Prim.Native.Nat.{_^_, _≤_, _<_};
-ghost use lib.ListN.{length, getD};
+ghost use Rattle.octets.specs.Prelude.{_≡_, false, _^_, _≤_, _<_, length, getD};
 ghost use Rattle.page.specs.Page.{pageSize, areaSize};
 ghost use Rattle.ring.specs.Reading.{isWhole};
 ghost use Rattle.guest_steps.specs.Guest.{Good, guestIn};

@@ -1,5 +1,5 @@
 // A new guest, written in place.
-ghost use mathlib.Core.Path.{_≡_};
+ghost use Rattle.octets.specs.Prelude.{_≡_};
 ghost use Rattle.guest_steps.specs.Guest.{guestIn, guestAtSetup};
 use guest_steps::MAX_ACK_PAYLOAD;
 use guest_steps::MAX_REQUEST;

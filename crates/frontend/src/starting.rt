@@ -1,6 +1,6 @@
 // The start of a request, on the parts of a guest as they are lent. The checks come first, then the writer puts the request
 // into its place, where nothing of another one is kept, and as much of it as fits goes to the page.
-ghost use mathlib.Core.Path.{_≡_};
+ghost use Rattle.octets.specs.Prelude.{_≡_};
 ghost use Rattle.guest_steps.specs.Guest.{Good, guestIn};
 ghost use Rattle.guest_steps.specs.Calls.{left, messageOf, startOf};
 use guest_messages::Written;

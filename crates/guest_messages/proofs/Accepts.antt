@@ -1,14 +1,7 @@
 -- Which messages the reader accepts, and what it answers then.
 -- Assumes nothing.
-use mathlib.Core.Path.{_≡_, refl, sym, ap, _∙_}
-use mathlib.Core.Logic.{_↔_}
-use mathlib.Core.List.{List}
-use mathlib.Core.Bool.{Bool, true, false, cond, false≢true}
-use Prim.Native.Nat.{ℕ, _+_, _-_, _≤_, _<_}
-use native.Mathlib.Omega.{arith}
-use lib.ListN.{length}
-use lib.Dec.{eqb, leb}
-use borrow.Author.Tests.{eq-eqb, eqb-true, le-leb, lt-leb, leb-true}
+use Rattle.octets.specs.Prelude.{_≡_, refl, sym, ap, _∙_, _↔_, List, Bool, true, false, cond, false≢true, ℕ, _+_, _-_, _≤_, _<_}
+use Rattle.octets.specs.Prelude.{arith, length, eqb, leb, eq-eqb, eqb-true, le-leb, lt-leb, leb-true}
 use Rattle.octets.specs.Outcome.{value, refused}
 use Rattle.octets.proofs.Truth.{both-true}
 use Rattle.messages.specs.Wire.{headerSize, fieldSize, typeIn, sizeIn, statusIn, ackFlagsIn, ackType, getFlagsType, setMappingType}

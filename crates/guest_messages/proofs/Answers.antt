@@ -1,12 +1,7 @@
 -- What the host answers, the reader accepts.
 -- Assumes nothing.
-use mathlib.Core.Path.{_≡_, refl, sym, ap, ap₂, _∙_}
-use mathlib.Core.List.{List}
-use mathlib.Core.Bool.{Bool, true, false, cond}
-use Prim.Native.Nat.{ℕ, _+_, _≤_}
-use native.Mathlib.Omega.{arith}
-use lib.ListN.{length}
-use borrow.Author.Tests.{eq-eqb, le-leb}
+use Rattle.octets.specs.Prelude.{_≡_, refl, sym, ap, ap₂, _∙_, List, Bool, true, false, cond, ℕ, _+_, _≤_, arith, length, eq-eqb}
+use Rattle.octets.specs.Prelude.{le-leb}
 use Rattle.octets.specs.Numbers.{numberAt, octetsOf}
 use Rattle.octets.specs.Outcome.{value}
 use Rattle.octets.proofs.Numbers.{length-octets, number-octets-alone}

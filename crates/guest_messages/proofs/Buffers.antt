@@ -1,14 +1,10 @@
 -- What stands in the output buffer after a header and a payload are written into it.
 -- Assumes nothing.
-use mathlib.Core.Path.{_≡_, refl, sym, ap, ap₂, _∙_}
-use mathlib.Core.List.{List, [], _∷_, _++_, append-assoc, append-nil}
-use Prim.Native.Nat.{ℕ, _+_, _*_, _≤_, _<_}
-use native.Mathlib.Nat.{zero-add}
-use native.Mathlib.Numerals.{add-one}
-use native.Mathlib.Omega.{arith}
-use lib.ListN.{length, getD, take, drop, length-append, drop-of-length-le, take-append-drop}
-use lib.Seq.{sets, sets-eq, take-at, drop-at, drop-drop, take-suc, take-all, length-take-le}
-use borrow.Author.Tests.{le-leb, lt-leb}
+use Rattle.octets.specs.Prelude.{_≡_, refl, sym, ap, ap₂, _∙_, List, [], _∷_, _++_, append-assoc, append-nil, ℕ, _+_, _*_, _≤_}
+use Rattle.octets.specs.Prelude.{_<_, zero-add, add-one, arith, length, getD, take, drop, length-append, drop-of-length-le}
+use Rattle.octets.specs.Prelude.{take-append-drop, sets, sets-eq, take-at, drop-at, drop-drop, take-all, length-take-le, le-leb}
+use Rattle.octets.specs.Prelude.{lt-leb}
+use lib.Seq.{take-suc}
 use Rattle.octets.specs.Numbers.{octetsOf}
 use Rattle.octets.specs.Outcome.{value, refused}
 use Rattle.octets.proofs.Copies.{sets-append, sets-all}

@@ -1,12 +1,7 @@
 -- What the reader accepts is the one encoding of what it answers.
 -- Assumes nothing.
-use mathlib.Core.Path.{_≡_, refl, sym, ap, ap₂, _∙_}
-use mathlib.Core.List.{List, _++_}
-use mathlib.Core.Bool.{Bool, true, false, cond}
-use Prim.Native.Nat.{ℕ, _+_}
-use native.Mathlib.Omega.{arith}
-use lib.ListN.{length, take, drop, length-drop, take-append-drop}
-use lib.Seq.{take-all, drop-drop}
+use Rattle.octets.specs.Prelude.{_≡_, refl, sym, ap, ap₂, _∙_, List, _++_, Bool, true, false, cond, ℕ, _+_, arith, length, take}
+use Rattle.octets.specs.Prelude.{drop, length-drop, take-append-drop, take-all, drop-drop}
 use Rattle.octets.specs.Numbers.{AreOctets, octetsOf}
 use Rattle.octets.specs.Outcome.{value}
 use Rattle.octets.proofs.Numbers.{octets-number}

@@ -1,11 +1,7 @@
 -- Fields written one after the other are the entries that the host reads.
 -- Assumes nothing.
-use mathlib.Core.Path.{_≡_, refl, ap, ap₂, _∙_}
-use mathlib.Core.List.{List, [], _∷_, _++_, append-assoc}
-use Prim.Native.Nat.{ℕ, suc, _^_}
-use native.Mathlib.Omega.{arith}
-use lib.ListN.{length, drop}
-use lib.Seq.{drop-at}
+use Rattle.octets.specs.Prelude.{_≡_, refl, ap, ap₂, _∙_, List, [], _∷_, _++_, append-assoc, ℕ, suc, _^_, arith, length, drop}
+use Rattle.octets.specs.Prelude.{drop-at}
 use Rattle.octets.specs.Numbers.{numberAt, octetsOf}
 use Rattle.octets.proofs.Numbers.{length-octets, number-octets}
 use Rattle.messages.specs.Wire.{fieldSize}

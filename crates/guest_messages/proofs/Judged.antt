@@ -1,12 +1,7 @@
 -- What the writer writes, the host judges by its content: each request's message carried out.
 -- Assumes nothing.
-use mathlib.Core.Path.{_≡_, refl, sym, ap, _∙_}
-use mathlib.Core.List.{List, [], _++_}
-use mathlib.Core.Bool.{Bool, true, false, cond}
-use Prim.Native.Nat.{ℕ, _*_, _/_, _%_, _^_, _≤_}
-use native.Mathlib.Omega.{arith}
-use lib.ListN.{length}
-use lib.Seq.{take-at}
+use Rattle.octets.specs.Prelude.{_≡_, refl, sym, ap, _∙_, List, [], _++_, Bool, true, false, cond, ℕ, _*_, _/_, _%_, _^_, _≤_}
+use Rattle.octets.specs.Prelude.{arith, length, take-at}
 use Rattle.octets.specs.Numbers.{numberAt, octetsOf}
 use Rattle.octets.proofs.Numbers.{length-octets, number-octets}
 use Rattle.toeplitz.specs.Hash.{keyLength}

@@ -1,14 +1,8 @@
 -- What a call of the writer leaves, by its answer; and when it refuses.
 -- Assumes nothing.
-use mathlib.Core.Path.{_≡_, refl, sym, ap, _∙_}
-use mathlib.Core.Logic.{_↔_}
-use mathlib.Core.List.{List}
-use mathlib.Core.Bool.{Bool, true, false, cond, false≢true}
-use Prim.Native.Nat.{ℕ, _≤_, _<_}
-use lib.ListN.{length, take, drop}
-use lib.Seq.{take-append-seam, drop-append-seam}
-use lib.Dec.{leb}
-use borrow.Author.Tests.{leb-true, leb-false}
+use Rattle.octets.specs.Prelude.{_≡_, refl, sym, ap, _∙_, _↔_, List, Bool, true, false, cond, false≢true, ℕ, _≤_, _<_, length}
+use Rattle.octets.specs.Prelude.{take, drop, take-append-seam, leb, leb-true, leb-false}
+use lib.Seq.{drop-append-seam}
 use Rattle.octets.specs.Outcome.{Outcome, value, refused}
 use Rattle.octets.proofs.Outcomes.{value-same, refused-same, value-not-refused}
 use Rattle.guest_messages.specs.Refusals.{bufferTooShort}

@@ -1,14 +1,7 @@
 -- What readers ask of the guest's writer and ack reader, and of the two ends together, over the definitions alone.
 -- Assumes nothing.
-use mathlib.Core.Path.{_≡_, refl, sym, ap, _∙_}
-use mathlib.Core.Logic.{_↔_}
-use mathlib.Core.List.{List, []}
-use mathlib.Core.Bool.{Bool, true, false, cond}
-use Prim.Native.Nat.{ℕ, _+_, _*_, _^_, _<_}
-use native.Mathlib.Omega.{arith}
-use lib.ListN.{length, take, drop}
-use lib.Dec.{eqb, leb}
-use borrow.Author.Tests.{ne-eqb, eqb-true, eqb-false, lt-leb, leb-true, leb-false}
+use Rattle.octets.specs.Prelude.{_≡_, refl, sym, ap, _∙_, _↔_, List, [], Bool, true, false, cond, ℕ, _+_, _*_, _^_, _<_, arith}
+use Rattle.octets.specs.Prelude.{length, take, drop, eqb, leb, ne-eqb, eqb-true, eqb-false, lt-leb, leb-true, leb-false}
 use Rattle.octets.specs.Numbers.{AreOctets, octetsOf}
 use Rattle.octets.specs.Outcome.{Outcome, value, refused}
 use Rattle.octets.proofs.Numbers.{length-octets}

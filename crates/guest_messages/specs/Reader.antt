@@ -1,10 +1,6 @@
 -- The guest's ack reader.
 -- Assumes nothing.
-use mathlib.Core.List.{List, _++_}
-use mathlib.Core.Bool.{Bool, true, cond, _&&_}
-use Prim.Native.Nat.{ℕ, _+_}
-use lib.ListN.{length}
-use lib.Dec.{eqb, leb}
+use Rattle.octets.specs.Prelude.{List, _++_, Bool, true, cond, _&&_, ℕ, _+_, length, eqb, leb}
 use Rattle.octets.specs.Numbers.{octetsOf}
 use Rattle.octets.specs.Outcome.{Outcome, value, refused}
 use Rattle.messages.specs.Wire.{headerSize, fieldSize, message, typeIn, sizeIn, statusIn, ackFlagsIn, ackType}

@@ -1,6 +1,6 @@
 -- The refusals of this crate, by document 01's numbers.
 -- Assumes nothing.
-use Prim.Native.Nat.{ℕ}
+use Rattle.octets.specs.Prelude.{ℕ}
 
 -- output buffer shorter than the message
 abbrev pub bufferTooShort : ℕ

@@ -1,10 +1,6 @@
 -- The guest's message writer: the four requests, and what it answers and leaves in the output buffer.
 -- Assumes nothing.
-use mathlib.Core.List.{List, [], _∷_, _++_}
-use mathlib.Core.Bool.{cond}
-use Prim.Native.Nat.{ℕ}
-use lib.ListN.{length, drop}
-use lib.Dec.{eqb, leb}
+use Rattle.octets.specs.Prelude.{List, [], _∷_, _++_, cond, ℕ, length, drop, eqb, leb}
 use Rattle.octets.specs.Numbers.{octetsOf}
 use Rattle.octets.specs.Outcome.{Outcome, value, refused}
 use Rattle.toeplitz.specs.Hash.{keyLength}

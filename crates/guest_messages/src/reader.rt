@@ -1,6 +1,6 @@
 // The reader of acks. It is told the type of the request that it waits for, since that decides which acks
 // there can be.
-ghost use mathlib.Core.Path.{_≡_};
+ghost use Rattle.octets.specs.Prelude.{_≡_};
 ghost use Rattle.messages.specs.Requests.{requestOf, carriesFlags};
 ghost use Rattle.guest_messages.specs.Reader.{statusAllowed, readAck, ackOutcomeOf};
 use crate::AckAnswer;

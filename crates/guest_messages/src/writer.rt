@@ -1,9 +1,6 @@
 // The writer: each request's checks, then the room in the buffer, and only then the message. The header is
 // written first and the payload behind it, each into its own part of the buffer.
-ghost use mathlib.Core.Path.{_≡_};
-ghost use mathlib.Core.List.{_++_};
-ghost use Prim.Native.Nat.{_*_, _≤_};
-ghost use lib.ListN.{length, drop};
+ghost use Rattle.octets.specs.Prelude.{_≡_, _++_, _*_, _≤_, length, drop};
 ghost use Rattle.messages.specs.Wire.{headerSize, fieldSize, header};
 ghost use Rattle.messages.specs.Settings.{isListed};
 ghost use Rattle.guest_messages.specs.Writer.{fieldsOf, getFlagsMessage, setFlagsMessage, setKeyMessage, setMappingMessage, after, written};

@@ -1,7 +1,5 @@
 // The stages of a start: what it finds, the request put into its place, and the request begun.
-ghost use mathlib.Core.Path.{_≡_};
-ghost use Prim.Native.Nat.{_^_, _≤_, _<_};
-ghost use lib.ListN.{length, getD};
+ghost use Rattle.octets.specs.Prelude.{_≡_, _^_, _≤_, _<_, length, getD};
 ghost use Rattle.page.specs.Page.{pageSize, areaSize};
 ghost use Rattle.guest_messages.specs.Writer.{after, written};
 ghost use Rattle.guest_steps.specs.Guest.{maxRequest};

@@ -1,12 +1,7 @@
 -- What a call finds on the page, by its tests, and what a start finds; and octets of the request written on.
 -- Assumes nothing.
-use mathlib.Core.Path.{_≡_, refl, ap, _∙_}
-use mathlib.Core.List.{List}
-use mathlib.Core.Bool.{Bool, true, false, cond}
-use Prim.Native.Nat.{ℕ, _+_, _-_, _≤_, _<_}
-use lib.ListN.{length, getD, set}
-use lib.Dec.{ltb}
-use borrow.Author.Tests.{eq-eqb, ne-eqb, le-leb, lt-leb}
+use Rattle.octets.specs.Prelude.{_≡_, refl, ap, _∙_, List, Bool, true, false, cond, ℕ, _+_, _-_, _≤_, _<_, length, getD, set, ltb}
+use Rattle.octets.specs.Prelude.{eq-eqb, ne-eqb, le-leb, lt-leb}
 use Rattle.octets.specs.Outcome.{Outcome, value, refused}
 use Rattle.page.specs.Refusals.{pageWrong, requestsWrong, responsesWrong}
 use Rattle.page.specs.Page.{pageSize, areaSize, requestsAt, advanced, countedByGuest, put}

@@ -1,9 +1,6 @@
 -- The numbers of a guest stored at their places: what is then held is the guest with those numbers.
 -- Assumes nothing.
-use mathlib.Core.Path.{_≡_, refl, ap, _∙_}
-use mathlib.Core.List.{List}
-use Prim.Native.Nat.{ℕ}
-use lib.ListN.{length, getD, set}
+use Rattle.octets.specs.Prelude.{_≡_, refl, ap, _∙_, List, ℕ, length, getD, set}
 use Rattle.octets.proofs.Lengths.{by-length}
 use Rattle.ring.specs.Writing.{outgoingOf}
 use Rattle.guest_steps.specs.Guest.{outstanding, guestOf, guestIn, withOutgoing}

@@ -1,10 +1,6 @@
 -- The calls of the guest's end, a start for each request and the event: the answer, the state and every octet of the page.
 -- Assumes nothing.
-use mathlib.Core.List.{List, _++_}
-use mathlib.Core.Bool.{Bool, not, cond, _&&_, _||_}
-use Prim.Native.Nat.{ℕ, _+_, _-_}
-use lib.ListN.{length, take, drop}
-use lib.Dec.{eqb, leb}
+use Rattle.octets.specs.Prelude.{List, _++_, Bool, not, cond, _&&_, _||_, ℕ, _+_, _-_, length, take, drop, eqb, leb}
 use Rattle.octets.specs.Outcome.{Outcome, value, refused}
 use Rattle.messages.specs.Wire.{headerSize, fieldSize, typeIn, sizeIn}
 use Rattle.page.specs.Refusals.{pageWrong, requestsWrong, responsesWrong}

@@ -1,11 +1,6 @@
 -- The guest's end of the ring: its state, at setup and from then on, and what its calls answer.
 -- Assumes nothing.
-use mathlib.Core.Path.{_≡_}
-use mathlib.Core.List.{List}
-use mathlib.Core.Bool.{Bool}
-use Prim.Native.Nat.{ℕ, _≤_, _<_}
-use lib.ListN.{getD, replicate}
-use lib.Dec.{ltb}
+use Rattle.octets.specs.Prelude.{_≡_, List, Bool, ℕ, _≤_, _<_, getD, replicate, ltb}
 use Rattle.toeplitz.specs.Refusals.{keyLengthWrong}
 use Rattle.messages.specs.Wire.{headerSize, success}
 use Rattle.page.specs.Refusals.{pageWrong, requestsWrong, responsesWrong}

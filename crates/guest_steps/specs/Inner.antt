@@ -1,10 +1,6 @@
 -- What the inner functions promise: no part of the public promise.
 -- Assumes nothing.
-use mathlib.Core.Path.{_≡_}
-use mathlib.Core.List.{List}
-use mathlib.Core.Bool.{Bool, true, false}
-use Prim.Native.Nat.{ℕ}
-use lib.ListN.{length, getD, set}
+use Rattle.octets.specs.Prelude.{_≡_, List, Bool, true, false, ℕ, length, getD, set}
 use Rattle.octets.specs.Outcome.{Outcome, value, refused}
 use Rattle.messages.specs.Wire.{typeIn, success}
 use Rattle.guest_messages.specs.Refusals.{notAnAck}

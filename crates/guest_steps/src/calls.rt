@@ -1,8 +1,5 @@
 // What the calls of the guest's end share: what a call finds on the page, and the request written on.
-ghost use mathlib.Core.Path.{_≡_};
-ghost use mathlib.Core.List.{[]};
-ghost use Prim.Native.Nat.{_^_, _≤_, _<_};
-ghost use lib.ListN.{length, getD};
+ghost use Rattle.octets.specs.Prelude.{_≡_, [], _^_, _≤_, _<_, length, getD};
 ghost use Rattle.page.specs.Page.{pageSize, areaSize, reqConsAt, rspProdAt, countIn, less, countedByGuest};
 ghost use Rattle.ring.specs.Writing.{GoodOutgoing};
 ghost use Rattle.guest_steps.specs.Guest.{maxRequest, guestIn, outgoing};

@@ -1,8 +1,5 @@
 // What is seen of an ack, whole or not.
-ghost use mathlib.Core.Path.{_≡_};
-ghost use mathlib.Core.List.{_++_};
-ghost use Prim.Native.Nat.{_≤_};
-ghost use lib.ListN.{take};
+ghost use Rattle.octets.specs.Prelude.{_≡_, _++_, _≤_, take};
 ghost use Rattle.guest_messages.specs.Reader.{readAck};
 ghost use Rattle.guest_steps.specs.Guest.{maxAckPayload};
 ghost use Rattle.guest_steps.specs.Calls.{judged, seen};

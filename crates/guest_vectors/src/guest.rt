@@ -1,8 +1,5 @@
 // The guest's part in the cases. The parts of the guest are lent.
-ghost use mathlib.Core.Path.{_≡_};
-ghost use mathlib.Core.List.{List};
-ghost use Prim.Native.Nat.{ℕ, _≤_};
-ghost use lib.ListN.{length};
+ghost use Rattle.octets.specs.Prelude.{_≡_, List, ℕ, _≤_, length};
 ghost use Rattle.guest_steps.specs.Guest.{Good, guestIn};
 use crate::lines::print_called;
 use cases::MAX_GIVEN;

@@ -1,7 +1,6 @@
 // Runs the cases of its files, one file after the other, and prints a line for each setup, start and event. They act on one
 // guest, one interface of the host and one page, one after the other. The parts of both ends stand in `main`, and are lent.
-ghost use mathlib.Core.Path.{_≡_};
-ghost use lib.ListN.{length};
+ghost use Rattle.octets.specs.Prelude.{_≡_, length};
 ghost use Rattle.interface.specs.States.{Good, interfaceIn};
 ghost use Rattle.guest_steps.specs.Guest.{Good as GoodGuest, guestIn};
 

@@ -1,10 +1,6 @@
 -- What the stages of an event did, as the definitions say it.
 -- Assumes nothing.
-use mathlib.Core.Path.{_≡_, refl, ap}
-use mathlib.Core.List.{List}
-use mathlib.Core.Bool.{cond}
-use Prim.Native.Nat.{ℕ, _+_}
-use lib.Dec.{ltb}
+use Rattle.octets.specs.Prelude.{_≡_, refl, ap, List, cond, ℕ, _+_, ltb}
 use Rattle.messages.specs.Requests.{Carried}
 use Rattle.page.specs.Page.{requestsAt, responsesAt, advanced, counted, put}
 use Rattle.ring.specs.Reading.{Incoming, receivedFrom}

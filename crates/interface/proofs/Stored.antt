@@ -1,11 +1,6 @@
 -- The numbers of an interface stored at their places: what is then held is the state with those numbers.
 -- Assumes nothing.
-use mathlib.Core.Path.{_≡_, refl}
-use mathlib.Core.List.{List}
-use mathlib.Core.Bool.{cond}
-use Prim.Native.Nat.{ℕ, _+_}
-use lib.ListN.{length, getD, set}
-use lib.Dec.{ltb}
+use Rattle.octets.specs.Prelude.{_≡_, refl, List, cond, ℕ, _+_, length, getD, set, ltb}
 use Rattle.octets.proofs.Lengths.{by-length}
 use Rattle.messages.specs.Settings.{settingsOf}
 use Rattle.messages.specs.Requests.{carriedAs}

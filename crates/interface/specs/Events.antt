@@ -1,10 +1,6 @@
 -- One event: its answer, the state and every octet of the page that it leaves.
 -- Assumes nothing.
-use mathlib.Core.List.{List}
-use mathlib.Core.Bool.{Bool, cond}
-use Prim.Native.Nat.{ℕ, _-_}
-use lib.ListN.{length}
-use lib.Dec.{eqb, leb, ltb}
+use Rattle.octets.specs.Prelude.{List, Bool, cond, ℕ, _-_, length, eqb, leb, ltb}
 use Rattle.messages.specs.Wire.{typeIn, sizeIn}
 use Rattle.messages.specs.Requests.{carriedOut}
 use Rattle.messages.specs.Requests.{Carried}

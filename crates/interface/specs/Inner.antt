@@ -1,9 +1,7 @@
 -- What the inner functions promise: no part of the public promise. Each speaks of the parts that it is lent, and holds
 -- whatever the others are.
 -- Assumes nothing.
-use mathlib.Core.Path.{_≡_}
-use mathlib.Core.List.{List}
-use Prim.Native.Nat.{ℕ}
+use Rattle.octets.specs.Prelude.{_≡_, List, ℕ}
 use Rattle.interface.specs.States.{interfaceIn}
 use Rattle.interface.specs.Events.{responded, readIn, left}
 use Rattle.interface.specs.declared.EventAnswer.{EventAnswer}

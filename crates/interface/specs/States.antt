@@ -1,11 +1,6 @@
 -- The state of an interface: what setup answers, what holds of every state from then on, and the packet question.
 -- Assumes nothing.
-use mathlib.Core.Path.{_≡_}
-use mathlib.Core.List.{List}
-use mathlib.Core.Bool.{cond, _&&_}
-use Prim.Native.Nat.{ℕ, _<_}
-use lib.ListN.{getD}
-use lib.Dec.{leb}
+use Rattle.octets.specs.Prelude.{_≡_, List, cond, _&&_, ℕ, _<_, getD, leb}
 use Rattle.octets.specs.Outcome.{Outcome, value, refused, done}
 use Rattle.messages.specs.Wire.{maxPayload}
 use Rattle.messages.specs.Requests.{maxAck}

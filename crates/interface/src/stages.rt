@@ -1,8 +1,5 @@
 // The stages of an event, each on the parts of an interface that it touches.
-ghost use mathlib.Core.Path.{_≡_};
-ghost use mathlib.Core.Bool.{false};
-ghost use Prim.Native.Nat.{_^_, _≤_, _<_};
-ghost use lib.ListN.{length, getD};
+ghost use Rattle.octets.specs.Prelude.{_≡_, false, _^_, _≤_, _<_, length, getD};
 ghost use Rattle.messages.specs.Settings.{Good as GoodSettings};
 ghost use Rattle.messages.specs.Requests.{maxAck};
 ghost use Rattle.page.specs.Page.{pageSize, areaSize};

@@ -1,7 +1,6 @@
 // Runs the cases of its files, one file after the other, and prints a line for each. Cases of requests act on the settings of
 // one interface, one after the other. Its numbers, key and mapping entries stand in `main`, and are lent.
-ghost use Prim.Native.Nat.{_≤_};
-ghost use lib.ListN.{length};
+ghost use Rattle.octets.specs.Prelude.{_≤_, length};
 
 mod answers;
 

@@ -1,12 +1,7 @@
 -- The octets of the two kinds of ack, and the status in them.
 -- Assumes nothing.
-use mathlib.Core.Path.{_≡_, refl, sym, ap, _∙_}
-use mathlib.Core.List.{List, _∷_, _++_}
-use mathlib.Core.Bool.{Bool, true, false, cond, false≢true}
-use Prim.Native.Nat.{ℕ, _+_, _-_, _^_, _≤_, _<_}
-use native.Mathlib.Omega.{arith}
-use lib.ListN.{length, set, replicate, length-append, length-replicate}
-use borrow.Author.Tests.{eqb-true}
+use Rattle.octets.specs.Prelude.{_≡_, refl, sym, ap, _∙_, List, _∷_, _++_, Bool, true, false, cond, false≢true, ℕ, _+_, _-_, _^_}
+use Rattle.octets.specs.Prelude.{_≤_, _<_, arith, length, set, replicate, length-append, length-replicate, eqb-true}
 use Rattle.octets.specs.Numbers.{numberAt, octetsOf}
 use Rattle.octets.proofs.Numbers.{length-octets, octets-small, number-octets, number-octets-alone}
 use Rattle.messages.specs.Wire.{headerSize, fieldSize, header, message, ackType, success, allFlags}

@@ -1,9 +1,6 @@
 -- Checks one after another: when all of them pass, and when two runs of checks give one status.
 -- Assumes nothing.
-use mathlib.Core.Path.{_≡_, refl}
-use mathlib.Core.Bool.{Bool, true, false}
-use Prim.Native.Nat.{ℕ, suc, _≤_}
-use native.Mathlib.Omega.{arith}
+use Rattle.octets.specs.Prelude.{_≡_, refl, Bool, true, false, ℕ, suc, _≤_, arith}
 use Rattle.messages.specs.Requests.{check}
 
 pub check-passed : (t : Bool) (status further : ℕ) → check t (suc status) further ≡ 0 → (t ≡ true) × (further ≡ 0)

@@ -1,11 +1,7 @@
 -- What a request leaves, by its status: on a nonzero one the settings as before, on success its own effect.
 -- Assumes nothing.
-use mathlib.Core.Path.{_≡_, refl, ap, _∙_}
-use mathlib.Core.List.{List}
-use mathlib.Core.Bool.{Bool, true, false, cond}
-use Prim.Native.Nat.{ℕ, suc, _/_}
-use lib.Dec.{eqb, eqb·suc-zero}
-use borrow.Author.Tests.{eq-eqb, ne-eqb, eqb-true}
+use Rattle.octets.specs.Prelude.{_≡_, refl, ap, _∙_, List, Bool, true, false, cond, ℕ, suc, _/_, eqb, eq-eqb, ne-eqb, eqb-true}
+use lib.Dec.{eqb·suc-zero}
 use Rattle.messages.specs.Wire.{fieldSize, success}
 use Rattle.messages.specs.Settings.{mappingOf}
 use Rattle.messages.specs.Requests.{Request, getFlags, setFlags, setKey, setMapping, none, flagsIn, keyIn, entriesIn, statusOf}

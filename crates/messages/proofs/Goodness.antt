@@ -1,12 +1,7 @@
 -- Good settings: at setup, and after each success.
 -- Assumes nothing.
-use mathlib.Core.Path.{_≡_, sym, ap, _∙_, subst}
-use mathlib.Core.List.{List, [], _∷_}
-use mathlib.Core.Bool.{true}
-use Prim.Native.Nat.{ℕ, zero, suc, _+_, _-_, _/_, _≤_}
-use native.Mathlib.Omega.{arith}
-use lib.ListN.{length, length-append, length-replicate}
-use lib.Seq.{take-append-seam, length-take-le}
+use Rattle.octets.specs.Prelude.{_≡_, sym, ap, _∙_, subst, List, [], _∷_, true, ℕ, zero, suc, _+_, _-_, _/_, _≤_, arith, length}
+use Rattle.octets.specs.Prelude.{length-append, length-replicate, take-append-seam, length-take-le}
 use Rattle.toeplitz.specs.Hash.{keyLength}
 use Rattle.messages.specs.Wire.{fieldSize, success, allFlags}
 use Rattle.messages.specs.Settings.{maxEntries, isPowerOfTwo, EachBelow}

@@ -1,14 +1,8 @@
 -- What of a payload a request looks at: the octets that its header counts, and none where it counts more than are kept.
 -- Assumes nothing.
-use mathlib.Core.Path.{_≡_, refl, sym, ap, _∙_}
-use mathlib.Core.List.{List}
-use mathlib.Core.Bool.{Bool, true, false, cond}
-use Prim.Native.Nat.{ℕ, _+_, _*_, _/_, _%_, _≤_, _<_}
-use native.Mathlib.Omega.{arith}
-use lib.ListN.{length, getD, take}
-use lib.Seq.{getD-take, ext-getD}
-use lib.Dec.{eqb, leb}
-use borrow.Author.Tests.{eqb-true, leb-true}
+use Rattle.octets.specs.Prelude.{_≡_, refl, sym, ap, _∙_, List, Bool, true, false, cond, ℕ, _+_, _*_, _/_, _%_, _≤_, _<_, arith}
+use Rattle.octets.specs.Prelude.{length, getD, take, getD-take, eqb, leb, eqb-true, leb-true}
+use lib.Seq.{ext-getD}
 use Rattle.octets.specs.Numbers.{numberAt}
 use Rattle.octets.proofs.Numbers.{number-same}
 use Rattle.toeplitz.specs.Hash.{keyLength}

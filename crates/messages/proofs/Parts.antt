@@ -1,11 +1,7 @@
 -- Where the parts of a message stand: what is written into its header and payload is what is read there.
 -- Assumes nothing.
-use mathlib.Core.Path.{_≡_, refl, sym, ap, _∙_}
-use mathlib.Core.List.{List, _++_, append-assoc}
-use Prim.Native.Nat.{ℕ, _+_, _^_, _<_}
-use native.Mathlib.Omega.{arith}
-use lib.ListN.{length, take, drop, length-append, length-drop, take-append-drop}
-use lib.Seq.{drop-at, take-add}
+use Rattle.octets.specs.Prelude.{_≡_, refl, sym, ap, _∙_, List, _++_, append-assoc, ℕ, _+_, _^_, _<_, arith, length, take, drop}
+use Rattle.octets.specs.Prelude.{length-append, length-drop, take-append-drop, drop-at, take-add}
 use Rattle.octets.specs.Numbers.{AreOctets, numberAt, octetsOf}
 use Rattle.octets.proofs.Numbers.{length-octets, number-behind, number-octets, octets-number}
 use Rattle.messages.specs.Requests.{carriedOut, carriedMessage}

@@ -1,16 +1,13 @@
 -- Powers of two: `isPowerOfTwo` means what it says, and is told by n AND (n - 1); and the listed lengths.
 -- Assumes nothing.
-use mathlib.Core.Path.{_≡_, refl, sym, ap, _∙_}
-use mathlib.Core.Logic.{_↔_}
-use mathlib.Core.Bool.{Bool, true, false, cond, false≢true, and-true, and-false}
-use Prim.Native.Nat.{ℕ, zero, suc, _-_, _/_, _%_, _^_, _≤_, _<_}
-use native.Mathlib.Nat.{pow-suc, mod-self}
-use native.Mathlib.Omega.{arith}
+use Rattle.octets.specs.Prelude.{_≡_, refl, sym, ap, _∙_, _↔_, Bool, true, false, cond, false≢true, ℕ, zero, suc, _-_, _/_, _%_}
+use Rattle.octets.specs.Prelude.{_^_, _≤_, _<_, pow-suc, arith, bitAnd, eqb, leb, eq-eqb, eqb-true, eqb-false, le-leb, lt-leb}
+use Rattle.octets.specs.Prelude.{leb-true, leb-false}
+use mathlib.Core.Bool.{and-true, and-false}
+use native.Mathlib.Nat.{mod-self}
 use lib.Arith.{bin-ind, lt-of-le-ne}
-use lib.Bits.{bitAnd, and-mask, and-step, and-self}
+use lib.Bits.{and-mask, and-step, and-self}
 use lib.Pow.{pow-lt}
-use lib.Dec.{eqb, leb}
-use borrow.Author.Tests.{eq-eqb, eqb-true, eqb-false, le-leb, lt-leb, leb-true, leb-false}
 use Rattle.octets.proofs.Truth.{same-truth, both-true}
 use Rattle.messages.specs.Settings.{maxEntries, isPowerBelow, isPowerOfTwo, isListed}
 

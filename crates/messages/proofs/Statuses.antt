@@ -1,13 +1,7 @@
 -- The rows of the table of requests, one by one: which check fails, and the status that follows; or none fails.
 -- Assumes nothing.
-use mathlib.Core.Path.{_≡_, refl}
-use mathlib.Core.List.{List}
-use mathlib.Core.Logic.{_↔_}
-use mathlib.Core.Bool.{true, false}
-use Prim.Native.Nat.{ℕ, _/_, _%_, _≤_, _<_}
-use native.Mathlib.Omega.{arith}
-use lib.Dec.{eqb, leb}
-use borrow.Author.Tests.{eq-eqb, ne-eqb, eqb-true, le-leb, lt-leb, leb-true}
+use Rattle.octets.specs.Prelude.{_≡_, refl, List, _↔_, true, false, ℕ, _/_, _%_, _≤_, _<_, arith, eqb, leb, eq-eqb, ne-eqb}
+use Rattle.octets.specs.Prelude.{eqb-true, le-leb, lt-leb, leb-true}
 use Rattle.toeplitz.specs.Hash.{keyLength}
 use Rattle.messages.specs.Wire.{fieldSize, success, notSupported, invalidParameter, bufferOverflow, allFlags}
 use Rattle.messages.specs.Settings.{maxEntries, isPowerOfTwo}

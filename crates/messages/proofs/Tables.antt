@@ -1,16 +1,9 @@
 -- Entries of a payload, one after the other; and tables whose entries are all below the queue count.
 -- Assumes nothing.
-use mathlib.Core.Path.{_≡_, refl, sym, ap, ap₂, _∙_}
-use mathlib.Core.List.{List, [], _∷_, _++_}
-use mathlib.Core.Logic.{_↔_}
-use mathlib.Core.Bool.{Bool, true, false}
-use Prim.Native.Nat.{ℕ, zero, suc, _+_, _-_, _*_, _≤_, _<_}
+use Rattle.octets.specs.Prelude.{_≡_, refl, sym, ap, ap₂, _∙_, List, [], _∷_, _++_, _↔_, Bool, true, false, ℕ, zero, suc, _+_}
+use Rattle.octets.specs.Prelude.{_-_, _*_, _≤_, _<_, arith, length, getD, drop, set, replicate, ltb, lt-ltb, ltb-true}
 use native.Mathlib.Nat.{zero-mul}
-use native.Mathlib.Omega.{arith}
-use lib.ListN.{length, getD, drop, set, replicate}
 use lib.Seq.{set-at, append-snoc}
-use lib.Dec.{ltb}
-use borrow.Author.Tests.{lt-ltb, ltb-true}
 use Rattle.octets.specs.Numbers.{numberAt}
 use Rattle.octets.proofs.Numbers.{number-drop}
 use Rattle.octets.proofs.Truth.{both-true}

@@ -1,14 +1,8 @@
 -- What readers ask of the host's messages, over the definitions alone. A contract says that the call answers what
 -- `carriedOut` says; these say what that means.
 -- Assumes nothing.
-use mathlib.Core.Path.{_≡_, refl, sym, ap, _∙_}
-use mathlib.Core.Logic.{_↔_}
-use mathlib.Core.Bool.{true}
-use mathlib.Core.List.{List, [], _∷_}
-use Prim.Native.Nat.{ℕ, _+_, _^_, _≤_, _<_}
-use native.Mathlib.Omega.{arith}
-use lib.ListN.{length, take}
-use lib.Seq.{take-append-seam, getD-take}
+use Rattle.octets.specs.Prelude.{_≡_, refl, sym, ap, _∙_, _↔_, true, List, [], _∷_, ℕ, _+_, _^_, _≤_, _<_, arith, length, take}
+use Rattle.octets.specs.Prelude.{take-append-seam, getD-take}
 use lib.Pow.{pow-mono}
 use Rattle.octets.specs.Numbers.{numberAt}
 use Rattle.octets.proofs.Numbers.{number-same, number-octets-alone}

@@ -1,10 +1,6 @@
 -- The request of a type, case by case.
 -- Assumes nothing.
-use mathlib.Core.Path.{_≡_, refl}
-use mathlib.Core.Bool.{Bool, true, false, cond}
-use Prim.Native.Nat.{ℕ}
-use lib.Dec.{eqb}
-use borrow.Author.Tests.{eqb-true, eqb-false}
+use Rattle.octets.specs.Prelude.{_≡_, refl, Bool, true, false, cond, ℕ, eqb, eqb-true, eqb-false}
 use Rattle.messages.specs.Wire.{getFlagsType, setFlagsType, setKeyType, setMappingType}
 use Rattle.messages.specs.Requests.{Request, getFlags, setFlags, setKey, setMapping, none, requestOf, carriesFlags}
 

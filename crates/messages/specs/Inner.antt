@@ -1,9 +1,6 @@
 -- What the private functions promise each other. Nothing here is needed to read the promises of the public calls.
 -- Assumes nothing.
-use mathlib.Core.Path.{_≡_}
-use mathlib.Core.List.{List}
-use mathlib.Core.Bool.{true}
-use Prim.Native.Nat.{ℕ}
+use Rattle.octets.specs.Prelude.{_≡_, List, true, ℕ}
 use Rattle.messages.specs.Settings.{Settings, mappingOf, settingsOf}
 use Rattle.messages.specs.Requests.{Request, getFlags, setFlags, setKey, setMapping, entriesIn, allBelow, ackPayload, ackStored, carriedBy}
 use Rattle.messages.specs.declared.table.Built.{Built}

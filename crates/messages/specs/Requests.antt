@@ -1,10 +1,7 @@
 -- Requests judged and carried out: the status, the settings left, and the ack.
 -- Assumes nothing.
-use mathlib.Core.List.{List, [], _∷_, _++_}
-use mathlib.Core.Bool.{Bool, true, false, cond, _&&_}
-use Prim.Native.Nat.{ℕ, zero, suc, _-_, _/_, _%_}
-use lib.ListN.{length, take, drop, replicate}
-use lib.Dec.{eqb, leb, ltb}
+use Rattle.octets.specs.Prelude.{List, [], _∷_, _++_, Bool, true, false, cond, _&&_, ℕ, zero, suc, _-_, _/_, _%_, length, take}
+use Rattle.octets.specs.Prelude.{drop, replicate, eqb, leb, ltb}
 use Rattle.octets.specs.Numbers.{numberAt, octetsOf}
 use Rattle.toeplitz.specs.Hash.{keyLength}
 use Rattle.messages.specs.Wire.{fieldSize, message, typeIn, sizeIn, payloadIn, statusIn}

@@ -1,11 +1,7 @@
 -- The settings of an interface: what they are at setup, and what holds of them from then on.
 -- Assumes nothing.
-use mathlib.Core.Path.{_≡_}
-use mathlib.Core.List.{List, [], _∷_, _++_}
-use mathlib.Core.Bool.{Bool, true, false, cond, _&&_}
-use Prim.Native.Nat.{ℕ, zero, suc, _-_, _^_, _≤_, _<_}
-use lib.ListN.{length, getD, take, replicate}
-use lib.Dec.{eqb, leb}
+use Rattle.octets.specs.Prelude.{_≡_, List, [], _∷_, _++_, Bool, true, false, cond, _&&_, ℕ, zero, suc, _-_, _^_, _≤_, _<_}
+use Rattle.octets.specs.Prelude.{length, getD, take, replicate, eqb, leb}
 use Rattle.toeplitz.specs.Hash.{keyLength}
 use Rattle.messages.specs.Wire.{allFlags}
 use Rattle.messages.specs.declared.Mapping.{Mapping}

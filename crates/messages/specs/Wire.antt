@@ -1,8 +1,6 @@
 -- Control messages as octets, as both ends write and read them.
 -- Assumes nothing.
-use mathlib.Core.List.{List, _++_}
-use Prim.Native.Nat.{ℕ, _+_}
-use lib.ListN.{length, drop}
+use Rattle.octets.specs.Prelude.{List, _++_, ℕ, _+_, length, drop}
 use Rattle.octets.specs.Numbers.{numberAt, octetsOf}
 
 -- the largest payload kept

@@ -1,5 +1,5 @@
 // The two kinds of ack. Each number in one fits its lowest octet, so only that one is stored.
-ghost use mathlib.Core.Path.{_≡_};
+ghost use Rattle.octets.specs.Prelude.{_≡_};
 ghost use Rattle.messages.specs.Requests.{ackStored, statusPayload, flagsPayload};
 use crate::ACK_TYPE;
 use crate::Ack;

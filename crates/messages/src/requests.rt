@@ -1,7 +1,6 @@
 // Requests judged and carried out: for each request its checks in order, and its effect only after the last. The
 // work is done in place, on the settings as they are lent, so that a request copies only what it replaces.
-ghost use mathlib.Core.Path.{_≡_};
-ghost use lib.ListN.{length};
+ghost use Rattle.octets.specs.Prelude.{_≡_, length};
 ghost use Rattle.messages.specs.Wire.{maxPayload};
 ghost use Rattle.messages.specs.Settings.{settingsOf};
 ghost use Rattle.messages.specs.Requests.{requestOf, ackPayload, ackStored, carriedAs, carriedOut};

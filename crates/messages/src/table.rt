@@ -1,8 +1,6 @@
 // The mapping table of a set mapping request: judged entry by entry into a new array, which is put into the
 // settings only when every entry passed. So a late bad entry leaves no half table.
-ghost use mathlib.Core.Path.{_≡_};
-ghost use Prim.Native.Nat.{_*_, _≤_};
-ghost use lib.ListN.{length};
+ghost use Rattle.octets.specs.Prelude.{_≡_, _*_, _≤_, length};
 ghost use Rattle.messages.specs.Wire.{fieldSize};
 ghost use Rattle.messages.specs.Settings.{maxEntries, isPowerOfTwo};
 ghost use Rattle.messages.specs.Inner.{Builds};

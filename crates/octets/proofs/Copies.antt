@@ -1,13 +1,9 @@
 -- One step of a copy into the start of a list, and its end. (A run of stores of one list behind another is `sets-append`.)
 -- Assumes nothing.
-use mathlib.Core.Path.{_≡_, sym, ap, _∙_}
-use mathlib.Core.List.{List, [], _∷_, _++_, append-nil}
-use Prim.Native.Nat.{ℕ, zero, suc, _+_, _≤_, _<_}
-use native.Mathlib.Nat.{add-zero, zero-add}
-use native.Mathlib.Numerals.{add-one}
-use native.Mathlib.Omega.{arith}
-use lib.ListN.{length, getD, set, take, drop, drop-of-length-le}
-use lib.Seq.{sets, sets-eq, paste-suc, take-all, drop-cons, drop-at, length-take-le}
+use Rattle.octets.specs.Prelude.{_≡_, sym, ap, _∙_, List, [], _∷_, _++_, append-nil, ℕ, zero, suc, _+_, _≤_, _<_, add-zero}
+use Rattle.octets.specs.Prelude.{zero-add, add-one, arith, length, getD, set, take, drop, drop-of-length-le, sets, sets-eq}
+use Rattle.octets.specs.Prelude.{take-all, drop-cons, drop-at, length-take-le}
+use lib.Seq.{paste-suc}
 
 pub copied-next : (d s e : List ℕ) (i : ℕ) → i < length d → i < length s → e ≡ take i s ++ drop i d
     → set e i (getD s i 0) ≡ take (i + 1) s ++ drop (i + 1) d

@@ -1,10 +1,6 @@
 -- A list of a known length is its elements, so what holds of every such list of variables holds of it.
 -- Assumes nothing.
-use mathlib.Core.Path.{_≡_}
-use mathlib.Core.List.{List, [], _∷_}
-use Prim.Native.Nat.{ℕ, zero, suc}
-use native.Mathlib.Omega.{arith}
-use lib.ListN.{length}
+use Rattle.octets.specs.Prelude.{_≡_, List, [], _∷_, ℕ, zero, suc, arith, length}
 
 -- P of every list of n elements, an element at a time
 abbrev pub Each : ℕ → (List ℕ → Type 0) → Type 0

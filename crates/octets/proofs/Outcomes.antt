@@ -1,9 +1,6 @@
 -- Outcomes that are equal have equal values, or equal numbers of refusal; and what a call with one test answers.
 -- Assumes nothing.
-use mathlib.Core.Path.{_≡_, refl, sym}
-use mathlib.Core.Bool.{Bool, true, false, cond}
-use Prim.Native.Nat.{ℕ}
-use native.Mathlib.Omega.{arith}
+use Rattle.octets.specs.Prelude.{_≡_, refl, sym, Bool, true, false, cond, ℕ, arith}
 use Rattle.octets.specs.Outcome.{Outcome, value, refused}
 
 module _ {A : Type 0} where

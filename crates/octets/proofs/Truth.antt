@@ -1,8 +1,6 @@
 -- Tests that are true together are equal, a test of two parts is true where both are, and a choice by a test.
 -- Assumes nothing.
-use mathlib.Core.Path.{_≡_, refl, sym}
-use mathlib.Core.Logic.{_↔_}
-use mathlib.Core.Bool.{Bool, true, false, cond, _&&_, false≢true}
+use Rattle.octets.specs.Prelude.{_≡_, refl, sym, _↔_, Bool, true, false, cond, _&&_, false≢true}
 
 pub same-truth : (a b : Bool) → (a ≡ true → b ≡ true) → (b ≡ true → a ≡ true) → a ≡ b
 same-truth true b f g = sym (f refl)

@@ -1,8 +1,6 @@
 -- Numbers in octets. Document 01: all numbers are unsigned and little-endian, so the lowest octet stands first.
 -- Assumes nothing.
-use mathlib.Core.List.{List, [], _∷_}
-use Prim.Native.Nat.{ℕ, zero, suc, _+_, _*_, _/_, _%_, _<_}
-use lib.ListN.{getD}
+use Rattle.octets.specs.Prelude.{List, [], _∷_, ℕ, zero, suc, _+_, _*_, _/_, _%_, _<_, getD}
 
 -- a list of octets: each number in it is below 256
 abbrev pub AreOctets : List ℕ → Type 0

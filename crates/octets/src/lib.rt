@@ -1,9 +1,5 @@
 // Octets in slices: a copy, and little-endian numbers at a place. What more than one crate needs, and no more.
-ghost use mathlib.Core.Path.{_≡_};
-ghost use Prim.Native.Nat.{_+_, _*_, _≤_};
-ghost use mathlib.Core.List.{_++_};
-ghost use lib.ListN.{length, take, drop};
-ghost use lib.Seq.{sets};
+ghost use Rattle.octets.specs.Prelude.{_≡_, _+_, _*_, _≤_, _++_, length, take, drop, sets};
 ghost use Rattle.octets.specs.Numbers.{numberAt, octetsOf};
 
 // Octets of a word.

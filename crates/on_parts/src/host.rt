@@ -1,5 +1,5 @@
 // The host's calls.
-ghost use mathlib.Core.Path.{_≡_};
+ghost use Rattle.octets.specs.Prelude.{_≡_};
 ghost use Rattle.octets.specs.Outcome.{numberOf, placed, itself};
 ghost use Rattle.interface.specs.States.{Good, interfaceIn, setUpOutcome};
 ghost use Rattle.interface.specs.Events.{eventOf};

@@ -1,16 +1,11 @@
 -- Fragments of a datagram: how the field of two octets tells them, and what readers ask of their kind.
 -- Assumes nothing.
-use mathlib.Core.Path.{_≡_, refl, sym, ap, _∙_}
-use mathlib.Core.Logic.{_↔_}
-use mathlib.Core.List.{List, _++_}
-use mathlib.Core.Bool.{Bool, true, false, cond, not, _||_, false≢true, and-false}
-use Prim.Native.Nat.{ℕ, _+_, _*_, _/_, _%_, _^_, _≤_, _<_}
-use native.Mathlib.Omega.{arith}
-use lib.Bits.{bitAnd, and-mask}
-use lib.ListN.{length, getD, take, drop, set, length-set}
-use lib.Seq.{take-add, drop-drop, getD-set-same, getD-set-other}
-use lib.Dec.{eqb, leb}
-use borrow.Author.Tests.{eqb-true, eqb-false, leb-true, leb-false, not-true, eq-eqb, ne-eqb}
+use Rattle.octets.specs.Prelude.{_≡_, refl, sym, ap, _∙_, _↔_, List, _++_, Bool, true, false, cond, not, _||_, false≢true, ℕ, _+_}
+use Rattle.octets.specs.Prelude.{_*_, _/_, _%_, _^_, _≤_, _<_, arith, bitAnd, length, getD, take, drop, set, length-set, take-add}
+use Rattle.octets.specs.Prelude.{drop-drop, getD-set-same, getD-set-other, eqb, leb, eqb-true, eqb-false, leb-true, leb-false}
+use Rattle.octets.specs.Prelude.{not-true, eq-eqb, ne-eqb}
+use mathlib.Core.Bool.{and-false}
+use lib.Bits.{and-mask}
 use Rattle.octets.proofs.Truth.{both-true}
 use Rattle.packet.specs.Packets.{hashType, isIpv4, isTcp, fragmentField, moreFragments, fragmentOffset, isFragment, isIpv4Tcp, kindOf, inputOf}
 use Rattle.packet.specs.Packets.{ipv4Source, ipv4Destination}

@@ -1,9 +1,6 @@
 -- What is told of a packet that has passed the tests of a kind.
 -- Assumes nothing.
-use mathlib.Core.Path.{_≡_, refl}
-use mathlib.Core.List.{List}
-use mathlib.Core.Bool.{true, false, not}
-use Prim.Native.Nat.{ℕ}
+use Rattle.octets.specs.Prelude.{_≡_, refl, List, true, false, not, ℕ}
 use Rattle.packet.specs.Packets.{isIpv4, isIpv6, isTcp, isFragment, isIpv4Tcp, kindOf, none, typed, lookAt}
 
 module _ (p : List ℕ) where

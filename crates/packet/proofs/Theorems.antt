@@ -1,14 +1,8 @@
 -- What readers and callers ask of the kind of a packet: each kind has the octets that its hash input takes, so the
 -- input is a part of the packet, as long as document 01 says.
 -- Assumes nothing.
-use mathlib.Core.Path.{_≡_, refl, sym, ap, _∙_}
-use mathlib.Core.List.{List}
-use mathlib.Core.Bool.{Bool, true, false, cond}
-use Prim.Native.Nat.{ℕ, suc, _+_, _≤_}
-use native.Mathlib.Omega.{arith}
-use lib.ListN.{length, drop, length-drop}
-use lib.Seq.{length-take-le}
-use borrow.Author.Tests.{leb-true}
+use Rattle.octets.specs.Prelude.{_≡_, refl, sym, ap, _∙_, List, Bool, true, false, cond, ℕ, suc, _+_, _≤_, arith, length, drop}
+use Rattle.octets.specs.Prelude.{length-drop, length-take-le, leb-true}
 use Rattle.octets.proofs.Truth.{both-true}
 use Rattle.toeplitz.specs.TwoWay.{lastType, inputSize}
 use Rattle.packet.specs.Packets.{PacketType, noType, hashType, isIpv4, isIpv6, isTcp, isIpv4Tcp, kindOf, inputStart, inputOf}

@@ -1,8 +1,6 @@
 // What an IP packet is, by its length and a few of its octets, and where its hash input stands. The packet is a
 // stranger's: only what its length covers is looked at.
-ghost use mathlib.Core.Path.{_≡_};
-ghost use Prim.Native.Nat.{_+_, _*_, _≤_, _<_};
-ghost use lib.ListN.{length};
+ghost use Rattle.octets.specs.Prelude.{_≡_, _+_, _*_, _≤_, _<_, length};
 ghost use Rattle.packet.specs.Packets.{isIpv4, isIpv6, isTcp, isFragment, isIpv4Tcp, kindOf, lookAt, lookOf};
 
 // The hash types by their numbers.

@@ -1,7 +1,6 @@
 // Runs the cases of its files, one file after the other, and prints a line for each packet: what it is, and where it
 // goes under the settings before it.
-ghost use Prim.Native.Nat.{_≤_};
-ghost use lib.ListN.{length};
+ghost use Rattle.octets.specs.Prelude.{_≤_, length};
 use answer_text::print_steered;
 use cases::Case;
 use cases::PARTS;

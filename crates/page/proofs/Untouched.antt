@@ -1,12 +1,7 @@
 -- Octets of a page that stores elsewhere leave as they were.
 -- Assumes nothing.
-use mathlib.Core.Path.{_≡_, refl, ap, ap₂, _∙_}
-use mathlib.Core.List.{List, [], _∷_}
-use mathlib.Core.Logic.{_⊎_, inl, inr}
-use Prim.Native.Nat.{ℕ, zero, suc, _+_, _%_, _^_, _≤_, _<_}
-use native.Mathlib.Omega.{arith}
-use lib.ListN.{length, getD, set, length-set}
-use lib.Seq.{getD-set-same, getD-set-other}
+use Rattle.octets.specs.Prelude.{_≡_, refl, ap, ap₂, _∙_, List, [], _∷_, _⊎_, inl, inr, ℕ, zero, suc, _+_, _%_, _^_, _≤_, _<_}
+use Rattle.octets.specs.Prelude.{arith, length, getD, set, length-set, getD-set-same, getD-set-other}
 use Rattle.page.proofs.Places.{octets-suc, octets-none, put-suc}
 use Rattle.page.proofs.CountLaws.{count-beside, count-length, count-back, count-other}
 use Rattle.page.specs.Page.{areaSize, reqConsAt, reqProdAt, rspConsAt, rspProdAt, countIn, withCount, counted, countedByGuest}

@@ -1,9 +1,7 @@
 -- The shared page: its counts, and the octets of its areas by their counts.
 -- Assumes nothing.
-use mathlib.Core.List.{List, [], _∷_, map}
-use Prim.Native.Nat.{ℕ, zero, suc, _+_, _-_, _%_, _^_}
-use lib.ListN.{getD, set}
-use lib.Seq.{sets}
+use Rattle.octets.specs.Prelude.{List, [], _∷_, ℕ, zero, suc, _+_, _-_, _%_, _^_, getD, set, sets}
+use mathlib.Core.List.{map}
 use Rattle.octets.specs.Numbers.{numberAt, octetsOf}
 
 -- octets of the page, and of each area

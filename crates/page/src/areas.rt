@@ -1,7 +1,5 @@
 // Octets of an area by their counts. They may fall into two parts: up to the area's end, and on from its start.
-ghost use mathlib.Core.Path.{_≡_};
-ghost use Prim.Native.Nat.{_+_, _≤_, min};
-ghost use lib.ListN.{length};
+ghost use Rattle.octets.specs.Prelude.{_≡_, _+_, _≤_, min, length};
 ghost use Rattle.page.specs.Page.{areaSize, octetsIn, put};
 use crate::AREA;
 

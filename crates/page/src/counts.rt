@@ -1,8 +1,6 @@
 // The counts of a page. Each end keeps its own two and reads the other end's two from the page; all run over from
 // 4,294,967,295 to 0.
-ghost use mathlib.Core.Path.{_≡_};
-ghost use Prim.Native.Nat.{_+_, _≤_};
-ghost use lib.ListN.{length};
+ghost use Rattle.octets.specs.Prelude.{_≡_, _+_, _≤_, length};
 ghost use Rattle.page.specs.Page.{countIn, less, withCount};
 
 // How many octets of an area are unread at this end: the writer's count, which stands at `at`, less the own one.

@@ -1,14 +1,8 @@
 -- The counts while records are counted: with what is left they come to what all records come to.
 -- Assumes nothing.
-use mathlib.Core.Path.{_≡_, refl, sym, ap, _∙_}
-use mathlib.Core.List.{List, [], _∷_}
-use mathlib.Core.Bool.{Bool, true, false, cond}
-use Prim.Native.Nat.{ℕ, _+_, _≤_, _<_}
-use native.Mathlib.Omega.{arith}
-use lib.ListN.{length, getD, length-set, replicate, getD-replicate}
-use lib.Seq.{getD-set-same, getD-set-other}
-use lib.Dec.{eqb}
-use borrow.Author.Tests.{eqb-true, eqb-false, eq-eqb}
+use Rattle.octets.specs.Prelude.{_≡_, refl, sym, ap, _∙_, List, [], _∷_, Bool, true, false, cond, ℕ, _+_, _≤_, _<_, arith, length}
+use Rattle.octets.specs.Prelude.{getD, length-set, replicate, getD-set-same, getD-set-other, eqb, eqb-true, eqb-false, eq-eqb}
+use lib.ListN.{getD-replicate}
 use Rattle.octets.specs.Outcome.{value, refused}
 use Rattle.octets.proofs.Outcomes.{test-refused}
 use Rattle.messages.specs.Settings.{Settings, maxQueues}

@@ -1,10 +1,6 @@
 -- The refusals of a report in their order.
 -- Assumes nothing.
-use mathlib.Core.Path.{_≡_, refl}
-use mathlib.Core.List.{List}
-use Prim.Native.Nat.{ℕ, _≤_, _<_}
-use lib.ListN.{length}
-use borrow.Author.Tests.{le-leb, lt-leb}
+use Rattle.octets.specs.Prelude.{_≡_, refl, List, ℕ, _≤_, _<_, length, le-leb, lt-leb}
 use Rattle.octets.specs.Outcome.{value, refused}
 use Rattle.messages.specs.Settings.{Settings}
 use Rattle.capture.specs.Header.{headerOutcome}

@@ -1,13 +1,7 @@
 -- Counts of every queue added up.
 -- Assumes nothing.
-use mathlib.Core.Path.{_≡_, refl, ap, _∙_}
-use mathlib.Core.List.{List, [], _∷_}
-use mathlib.Core.Bool.{Bool, cond}
-use Prim.Native.Nat.{ℕ, zero, suc, _+_, _<_}
-use native.Mathlib.Omega.{arith}
-use lib.ListN.{length}
-use lib.Dec.{eqb}
-use borrow.Author.Tests.{eqb-true, eq-eqb, ne-eqb}
+use Rattle.octets.specs.Prelude.{_≡_, refl, ap, _∙_, List, [], _∷_, Bool, cond, ℕ, zero, suc, _+_, _<_, arith, length, eqb}
+use Rattle.octets.specs.Prelude.{eqb-true, eq-eqb, ne-eqb}
 use Rattle.octets.proofs.Truth.{same-truth}
 use Rattle.capture.specs.Records.{capturedOctets}
 use Rattle.report.specs.Counting.{Tally, tallyOf, those, rising, sumOf}

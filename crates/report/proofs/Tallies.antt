@@ -1,11 +1,7 @@
 -- Laws of what is counted: record by record, and queue by queue.
 -- Assumes nothing.
-use mathlib.Core.Path.{_≡_, refl, ap₂}
-use mathlib.Core.List.{List, [], _∷_}
-use mathlib.Core.Bool.{Bool, true, false, cond}
-use Prim.Native.Nat.{ℕ, zero, suc, _+_, _≤_, _<_}
-use native.Mathlib.Omega.{arith}
-use lib.ListN.{length}
+use Rattle.octets.specs.Prelude.{_≡_, refl, ap₂, List, [], _∷_, Bool, true, false, cond, ℕ, zero, suc, _+_, _≤_, _<_, arith}
+use Rattle.octets.specs.Prelude.{length}
 use Rattle.capture.specs.Records.{capturedOctets}
 use Rattle.report.specs.Counting.{those, rising}
 

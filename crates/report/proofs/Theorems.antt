@@ -1,15 +1,9 @@
 -- What readers ask of a report, over the definitions alone. A contract says that the call answers what `reportOn` says;
 -- these say what that means.
 -- Assumes nothing.
-use mathlib.Core.Path.{_≡_, refl, sym, ap, _∙_}
-use mathlib.Core.List.{List, [], _∷_, _++_}
-use mathlib.Core.Bool.{Bool, true, false, cond, _&&_, false≢true}
-use Prim.Native.Nat.{ℕ, _+_, _-_, _≤_, _<_}
-use native.Mathlib.Omega.{arith}
-use lib.ListN.{length, take, replicate, length-append, length-drop}
-use lib.Seq.{take-append-le}
-use lib.Dec.{eqb, leb}
-use borrow.Author.Tests.{leb-true, eq-eqb}
+use Rattle.octets.specs.Prelude.{_≡_, refl, sym, ap, _∙_, List, [], _∷_, _++_, Bool, true, false, cond, _&&_, false≢true, ℕ, _+_}
+use Rattle.octets.specs.Prelude.{_-_, _≤_, _<_, arith, length, take, replicate, length-append, length-drop, take-append-le, eqb}
+use Rattle.octets.specs.Prelude.{leb, leb-true, eq-eqb}
 use Rattle.octets.specs.Outcome.{Outcome, value, refused, andThen}
 use Rattle.octets.proofs.Truth.{both-true}
 use Rattle.octets.proofs.Outcomes.{value-same, value-not-refused, test-value}

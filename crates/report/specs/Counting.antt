@@ -1,10 +1,6 @@
 -- What is counted of the records of a capture, under the settings of an interface.
 -- Assumes nothing.
-use mathlib.Core.List.{List, [], _∷_}
-use mathlib.Core.Bool.{Bool, true, false, cond}
-use Prim.Native.Nat.{ℕ, zero, suc, _+_}
-use lib.ListN.{length}
-use lib.Dec.{eqb}
+use Rattle.octets.specs.Prelude.{List, [], _∷_, Bool, true, false, cond, ℕ, zero, suc, _+_, length, eqb}
 use Rattle.messages.specs.Settings.{Settings}
 use Rattle.steering.specs.Steering.{Choice, unhashed, hashed, queueIn}
 use Rattle.interface.specs.States.{steeredBy}

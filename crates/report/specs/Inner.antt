@@ -1,10 +1,6 @@
 -- What the inner functions promise: no part of the public promise.
 -- Assumes nothing.
-use mathlib.Core.Path.{_≡_}
-use mathlib.Core.List.{List}
-use mathlib.Core.Bool.{cond}
-use Prim.Native.Nat.{ℕ, _+_, _^_, _<_}
-use lib.ListN.{getD, set}
+use Rattle.octets.specs.Prelude.{_≡_, List, cond, ℕ, _+_, _^_, _<_, getD, set}
 use Rattle.messages.specs.Settings.{maxQueues}
 use Rattle.steering.specs.Steering.{Choice, queueIn}
 use Rattle.report.specs.Counting.{isUnhashed}

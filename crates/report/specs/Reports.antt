@@ -1,10 +1,6 @@
 -- The report on a settings file and a capture.
 -- Assumes nothing.
-use mathlib.Core.List.{List}
-use mathlib.Core.Bool.{cond, _&&_}
-use Prim.Native.Nat.{ℕ}
-use lib.ListN.{length, getD}
-use lib.Dec.{leb}
+use Rattle.octets.specs.Prelude.{List, cond, _&&_, ℕ, length, getD, leb}
 use Rattle.octets.specs.Outcome.{Outcome, value, refused, andThen}
 use Rattle.messages.specs.Settings.{Settings}
 use Rattle.capture.specs.Header.{headerOutcome}

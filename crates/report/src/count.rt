@@ -1,8 +1,5 @@
 // The records of a capture, counted one after the other.
-ghost use mathlib.Core.Path.{_≡_};
-ghost use mathlib.Core.Bool.{true, cond};
-ghost use Prim.Native.Nat.{_+_, _≤_, _<_, _^_};
-ghost use lib.ListN.{length, getD, take};
+ghost use Rattle.octets.specs.Prelude.{_≡_, true, cond, _+_, _≤_, _<_, _^_, length, getD, take};
 ghost use Rattle.octets.specs.Outcome.{refused as refusal};
 ghost use Rattle.messages.specs.Settings.{maxQueues, isListed, Good};
 ghost use Rattle.steering.specs.Steering.{choiceOf, queueIn, steered};

@@ -1,11 +1,6 @@
 -- The lines of queues: one queue more is one line more, behind the others.
 -- Assumes nothing.
-use mathlib.Core.Path.{_≡_, sym, ap, _∙_}
-use mathlib.Core.List.{List, _++_, append-assoc, append-nil}
-use Prim.Native.Nat.{ℕ, zero, suc, _+_}
-use native.Mathlib.Numerals.{add-one}
-use native.Mathlib.Omega.{arith}
-use lib.ListN.{getD}
+use Rattle.octets.specs.Prelude.{_≡_, sym, ap, _∙_, List, _++_, append-assoc, append-nil, ℕ, zero, suc, _+_, add-one, arith, getD}
 use Rattle.report.specs.Counting.{Tally, rising}
 use Rattle.report_text.specs.ReportLines.{queueLine, queueLines}
 

@@ -1,7 +1,6 @@
 -- The lines of a report.
 -- Assumes nothing.
-use mathlib.Core.List.{List, [], _∷_, _++_}
-use Prim.Native.Nat.{ℕ, suc}
+use Rattle.octets.specs.Prelude.{List, [], _∷_, _++_, ℕ, suc}
 use Rattle.octets.specs.Outcome.{Outcome, value, refused}
 use Rattle.text.specs.Ascii.{ascii, decimal}
 use Rattle.text.specs.Lines.{numberLine, refusalLine}

@@ -1,5 +1,5 @@
 // The report as the lines that the program prints.
-ghost use Prim.Native.Nat.{_+_, _*_, _≤_};
+ghost use Rattle.octets.specs.Prelude.{_+_, _*_, _≤_};
 ghost use Rattle.text.specs.Text.{capacity, Adds, Prints};
 ghost use Rattle.messages.specs.Settings.{maxQueues};
 ghost use Rattle.report.specs.Reports.{countedOf, reportOf};

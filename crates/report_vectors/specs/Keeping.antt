@@ -1,6 +1,6 @@
 -- The files that are kept.
 -- Assumes nothing.
-use Prim.Native.Nat.{ℕ, _≤_}
+use Rattle.octets.specs.Prelude.{ℕ, _≤_}
 use Rattle.report_vectors.specs.declared.Kept.{Kept}
 
 -- they fit buffers of n and of m octets

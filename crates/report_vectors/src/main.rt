@@ -1,6 +1,6 @@
 // Runs the cases of its files, one file after the other, and prints the report of each. A settings file and a capture are
 // kept for the cases behind them.
-ghost use lib.ListN.{length};
+ghost use Rattle.octets.specs.Prelude.{length};
 ghost use Rattle.report_vectors.specs.Keeping.{Fits};
 use cases::Case;
 use cases::PARTS;

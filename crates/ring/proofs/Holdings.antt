@@ -1,15 +1,12 @@
 -- A message read octet by octet holds the octets that were read.
 -- Assumes nothing.
-use mathlib.Core.Path.{_≡_, refl, sym, ap, ap₂, _∙_}
-use mathlib.Core.List.{List, [], _∷_, _++_, append-nil}
-use mathlib.Core.Bool.{Bool, true, false}
-use Prim.Native.Nat.{ℕ, suc, _+_, _-_, _≤_, _<_}
-use native.Mathlib.Omega.{arith}
-use lib.ListN.{length, take, drop, set, length-append, length-take, length-drop, length-set, drop-of-length-le, List·getD-append}
-use lib.Seq.{take-all, take-length, take-append-le, take-append-add, drop-append-le, append-snoc, getD-take}
-use lib.Seq.{length-take-le, set-out, take-suc-set}
-use lib.Dec.{leb, ltb}
-use borrow.Author.Tests.{le-leb, lt-leb, leb-true, leb-false, ltb-true, ltb-false}
+use Rattle.octets.specs.Prelude.{_≡_, refl, sym, ap, ap₂, _∙_, List, [], _∷_, _++_, append-nil, Bool, true, false, ℕ, suc, _+_}
+use Rattle.octets.specs.Prelude.{_-_, _≤_, _<_, arith, length, take, drop, set, length-append, length-take, length-drop}
+use Rattle.octets.specs.Prelude.{length-set, drop-of-length-le, List·getD-append, take-all, take-append-le, take-append-add}
+use Rattle.octets.specs.Prelude.{drop-append-le, getD-take, length-take-le, leb, ltb, le-leb, lt-leb, leb-true, leb-false}
+use Rattle.octets.specs.Prelude.{ltb-true, ltb-false}
+use lib.Seq.{take-length, append-snoc}
+use lib.Seq.{set-out, take-suc-set}
 use Rattle.octets.proofs.Numbers.{number-same}
 use Rattle.messages.specs.Wire.{headerSize, maxPayload, sizeIn}
 use Rattle.ring.specs.Reading.{messageLength, whole, withOctet, received}

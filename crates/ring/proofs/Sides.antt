@@ -1,13 +1,7 @@
 -- Both sides of a ring stay good, and octets are counted as they are moved.
 -- Assumes nothing.
-use mathlib.Core.Path.{_≡_, refl, _∙_}
-use mathlib.Core.List.{List, [], _∷_}
-use mathlib.Core.Bool.{false}
-use Prim.Native.Nat.{ℕ, suc, _+_, _-_, _^_, _≤_, _<_}
-use native.Mathlib.Omega.{arith}
-use lib.ListN.{length, length-set}
-use lib.Dec.{ltb}
-use borrow.Author.Tests.{lt-leb}
+use Rattle.octets.specs.Prelude.{_≡_, refl, _∙_, List, [], _∷_, false, ℕ, suc, _+_, _-_, _^_, _≤_, _<_, arith, length, length-set}
+use Rattle.octets.specs.Prelude.{ltb, lt-leb}
 use Rattle.octets.proofs.Truth.{by-test}
 use Rattle.messages.specs.Wire.{headerSize, maxPayload}
 use Rattle.messages.specs.Requests.{maxAck}

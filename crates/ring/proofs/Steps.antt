@@ -1,15 +1,10 @@
 -- Octets read into a message one by one are octets read into its header and into its payload in blocks.
 -- Assumes nothing.
-use mathlib.Core.Path.{_≡_, refl, sym, ap, ap₂, _∙_}
-use mathlib.Core.List.{List, [], _∷_, _++_, append-assoc}
-use mathlib.Core.Bool.{Bool, true, false}
-use Prim.Native.Nat.{ℕ, zero, suc, _+_, _-_, _≤_, min}
-use native.Mathlib.Nat.{add-zero}
-use native.Mathlib.Omega.{arith}
-use lib.ListN.{length, set, take, drop, length-set, length-take, length-drop}
-use lib.Seq.{sets, sets-eq, set-out, take-nil, drop-drop}
-use lib.Dec.{leb, ltb}
-use borrow.Author.Tests.{lt-leb, ltb-true, ltb-false, leb-true, leb-false}
+use Rattle.octets.specs.Prelude.{_≡_, refl, sym, ap, ap₂, _∙_, List, [], _∷_, _++_, append-assoc, Bool, true, false, ℕ, zero, suc}
+use Rattle.octets.specs.Prelude.{_+_, _-_, _≤_, min, add-zero, arith, length, set, take, drop, length-set, length-take}
+use Rattle.octets.specs.Prelude.{length-drop, sets, sets-eq, drop-drop, leb, ltb, lt-leb, ltb-true, ltb-false, leb-true}
+use Rattle.octets.specs.Prelude.{leb-false}
+use lib.Seq.{set-out, take-nil}
 use borrow.Rule.Slice.PartMut.{putMid}
 use Rattle.messages.specs.Wire.{headerSize}
 use Rattle.page.specs.Page.{advanced, octetsIn}

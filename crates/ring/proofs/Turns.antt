@@ -1,12 +1,6 @@
 -- What one octet does to a message, and when it is taken.
 -- Assumes nothing.
-use mathlib.Core.Path.{_≡_, refl}
-use mathlib.Core.List.{List, [], _∷_}
-use mathlib.Core.Bool.{true, false}
-use Prim.Native.Nat.{ℕ, suc, _-_, _≤_, _<_}
-use native.Mathlib.Numerals.{add-one}
-use lib.ListN.{set}
-use borrow.Author.Tests.{lt-ltb, le-ltb}
+use Rattle.octets.specs.Prelude.{_≡_, refl, List, [], _∷_, true, false, ℕ, suc, _-_, _≤_, _<_, add-one, set, lt-ltb, le-ltb}
 use Rattle.messages.specs.Wire.{headerSize}
 use Rattle.ring.specs.Reading.{whole, withOctet, received}
 use Rattle.ring.specs.Reading.{Message}

@@ -1,9 +1,6 @@
 -- What the inner functions promise: no part of the public promise.
 -- Assumes nothing.
-use mathlib.Core.List.{List}
-use mathlib.Core.Bool.{cond}
-use Prim.Native.Nat.{ℕ, _-_, min}
-use lib.Dec.{ltb}
+use Rattle.octets.specs.Prelude.{List, cond, ℕ, _-_, min, ltb}
 use Rattle.messages.specs.Wire.{headerSize}
 use Rattle.ring.specs.Reading.{messageLength}
 

@@ -1,11 +1,6 @@
 -- The present message, and octets of an area read into it. A reading side is that of either end.
 -- Assumes nothing.
-use mathlib.Core.Path.{_≡_}
-use mathlib.Core.List.{List, [], _∷_}
-use mathlib.Core.Bool.{Bool, false, cond}
-use Prim.Native.Nat.{ℕ, _+_, _-_, _^_, _<_}
-use lib.ListN.{length, set, replicate}
-use lib.Dec.{leb, ltb}
+use Rattle.octets.specs.Prelude.{_≡_, List, [], _∷_, Bool, false, cond, ℕ, _+_, _-_, _^_, _<_, length, set, replicate, leb, ltb}
 use Rattle.messages.specs.Wire.{headerSize, maxPayload, sizeIn}
 use Rattle.page.specs.Page.{advanced, octetsIn}
 

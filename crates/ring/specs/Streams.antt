@@ -1,10 +1,6 @@
 -- A stream of octets: the message that it begins with, and a message read so far as the octets that were read.
 -- Assumes nothing.
-use mathlib.Core.Path.{_≡_}
-use mathlib.Core.List.{List}
-use mathlib.Core.Bool.{Bool, cond}
-use Prim.Native.Nat.{ℕ, _-_}
-use lib.ListN.{length, take, drop}
+use Rattle.octets.specs.Prelude.{_≡_, List, Bool, cond, ℕ, _-_, length, take, drop}
 use Rattle.messages.specs.Wire.{headerSize, maxPayload}
 use Rattle.ring.specs.Reading.{messageLength, isWhole}
 use Rattle.ring.specs.Reading.{Message}

@@ -1,9 +1,6 @@
 -- A message, and octets of it put into an area. A writing side is that of either end.
 -- Assumes nothing.
-use mathlib.Core.Path.{_≡_}
-use mathlib.Core.List.{List}
-use Prim.Native.Nat.{ℕ, _+_, _-_, _^_, _≤_, _<_, min}
-use lib.ListN.{length, take, drop, replicate}
+use Rattle.octets.specs.Prelude.{_≡_, List, ℕ, _+_, _-_, _^_, _≤_, _<_, min, length, take, drop, replicate}
 use Rattle.messages.specs.Requests.{maxAck}
 use Rattle.page.specs.Page.{advanced}
 

@@ -1,10 +1,6 @@
 // The present message read from an area: first what is missing of its header, then of its payload, until
 // it is whole or no octet is left. Octets of a following message stay.
-ghost use mathlib.Core.Path.{_≡_};
-ghost use mathlib.Core.Bool.{false};
-ghost use Prim.Native.Nat.{_+_, _-_, _^_, _≤_, _<_};
-ghost use lib.ListN.{length};
-ghost use lib.Seq.{sets};
+ghost use Rattle.octets.specs.Prelude.{_≡_, false, _+_, _-_, _^_, _≤_, _<_, length, sets};
 ghost use Rattle.messages.specs.Wire.{headerSize};
 ghost use Rattle.page.specs.Page.{areaSize, advanced, octetsIn};
 ghost use Rattle.ring.specs.Reading.{messageLength, isWhole, incomingOf, receivedFrom};

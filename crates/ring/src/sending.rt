@@ -1,7 +1,5 @@
 // A message written into an area, as far as it fits.
-ghost use mathlib.Core.Path.{_≡_};
-ghost use Prim.Native.Nat.{_+_, _≤_};
-ghost use lib.ListN.{length};
+ghost use Rattle.octets.specs.Prelude.{_≡_, _+_, _≤_, length};
 ghost use Rattle.page.specs.Page.{areaSize, put};
 ghost use Rattle.ring.specs.Writing.{outgoingOf, fitting, sentOctets};
 use page::least;

@@ -1,13 +1,9 @@
 -- What carrying out the first message of some octets leaves.
 -- Assumes nothing.
-use mathlib.Core.Path.{_≡_, sym, ap, _∙_}
-use mathlib.Core.List.{List, [], _++_}
-use mathlib.Core.Bool.{true, false}
-use Prim.Native.Nat.{ℕ, _+_, _-_, _≤_, _<_}
-use native.Mathlib.Omega.{arith}
-use lib.ListN.{length, take, drop, length-append, length-drop, drop-of-length-le}
-use lib.Seq.{length-take-le, take-all, take-length, take-append-seam, drop-drop}
-use borrow.Author.Tests.{leb-true}
+use Rattle.octets.specs.Prelude.{_≡_, sym, ap, _∙_, List, [], _++_, true, false, ℕ, _+_, _-_, _≤_, _<_, arith, length, take, drop}
+use Rattle.octets.specs.Prelude.{length-append, length-drop, drop-of-length-le, length-take-le, take-all, take-append-seam}
+use Rattle.octets.specs.Prelude.{drop-drop, leb-true}
+use lib.Seq.{take-length}
 use Rattle.octets.specs.Outcome.{value, refused}
 use Rattle.messages.specs.Wire.{maxPayload, headerSize, typeIn, sizeIn, success}
 use Rattle.messages.specs.Settings.{Settings, Good}

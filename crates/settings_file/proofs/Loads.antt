@@ -1,14 +1,8 @@
 -- The settings that messages leave, message by message.
 -- Assumes nothing.
-use mathlib.Core.Path.{_≡_, refl, sym, ap, ap₂, _∙_}
-use mathlib.Core.List.{List, [], _∷_, _++_, append-nil}
-use mathlib.Core.Bool.{Bool, true, false, cond, _&&_}
-use Prim.Native.Nat.{ℕ, _+_, _-_, _≤_, _<_}
-use native.Mathlib.Omega.{arith}
-use lib.ListN.{length, getD, take, drop, length-drop}
-use lib.Seq.{length-take-le, take-all, take-add, drop-at, getD-take}
-use lib.Dec.{eqb, leb}
-use borrow.Author.Tests.{eq-eqb, ne-eqb, leb-true, leb-false}
+use Rattle.octets.specs.Prelude.{_≡_, refl, sym, ap, ap₂, _∙_, List, [], _∷_, _++_, append-nil, Bool, true, false, cond, _&&_, ℕ}
+use Rattle.octets.specs.Prelude.{_+_, _-_, _≤_, _<_, arith, length, getD, take, drop, length-drop, length-take-le, take-all}
+use Rattle.octets.specs.Prelude.{take-add, drop-at, getD-take, eqb, leb, eq-eqb, ne-eqb, leb-true, leb-false}
 use Rattle.octets.specs.Outcome.{Outcome, value, refused, andThen, done, numberOf, placed, itself}
 use Rattle.octets.proofs.Truth.{both-true}
 use Rattle.octets.proofs.Numbers.{number-same}

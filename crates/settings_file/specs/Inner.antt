@@ -1,9 +1,6 @@
 -- What the inner functions promise: no part of the public promise.
 -- Assumes nothing.
-use mathlib.Core.Path.{_≡_}
-use mathlib.Core.List.{List}
-use Prim.Native.Nat.{ℕ, _≤_, _<_}
-use lib.ListN.{length, take, drop}
+use Rattle.octets.specs.Prelude.{_≡_, List, ℕ, _≤_, _<_, length, take, drop}
 use Rattle.octets.specs.Outcome.{refused, placed, itself}
 use Rattle.messages.specs.Wire.{maxPayload}
 use Rattle.messages.specs.Settings.{Settings, Good}

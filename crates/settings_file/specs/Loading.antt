@@ -1,10 +1,6 @@
 -- The settings file: one octet for the queue count, then request messages, each carried out as the host does.
 -- Assumes nothing.
-use mathlib.Core.List.{List, [], _∷_}
-use mathlib.Core.Bool.{Bool, true, cond, _&&_}
-use Prim.Native.Nat.{ℕ}
-use lib.ListN.{length}
-use lib.Dec.{eqb}
+use Rattle.octets.specs.Prelude.{List, [], _∷_, Bool, true, cond, _&&_, ℕ, length, eqb}
 use Rattle.octets.specs.Outcome.{Outcome, value, refused, andThen}
 use Rattle.messages.specs.Wire.{success}
 use Rattle.messages.specs.Requests.{ackStatus, carriedMessage}

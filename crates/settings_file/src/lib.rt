@@ -1,7 +1,5 @@
 // The settings of a file: a queue count, then messages carried out one after the other.
-ghost use mathlib.Core.Path.{_≡_};
-ghost use Prim.Native.Nat.{_≤_, _<_};
-ghost use lib.ListN.{length, getD};
+ghost use Rattle.octets.specs.Prelude.{_≡_, _≤_, _<_, length, getD};
 ghost use Rattle.octets.specs.Outcome.{numberOf};
 ghost use Rattle.messages.specs.Wire.{maxPayload};
 ghost use Rattle.messages.specs.Settings.{Good};

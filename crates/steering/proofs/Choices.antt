@@ -1,13 +1,8 @@
 -- How the steps of the code make up the choice.
 -- Assumes nothing.
-use mathlib.Core.Path.{_≡_, refl, sym, ap, _∙_}
-use mathlib.Core.List.{List}
-use mathlib.Core.Bool.{Bool, true, false, cond}
-use Prim.Native.Nat.{ℕ, zero, suc, _+_, _-_, _≤_}
-use native.Mathlib.Omega.{arith}
-use lib.ListN.{length, take, drop}
+use Rattle.octets.specs.Prelude.{_≡_, refl, sym, ap, _∙_, List, Bool, true, false, cond, ℕ, zero, suc, _+_, _-_, _≤_, arith}
+use Rattle.octets.specs.Prelude.{length, take, drop, lit≤}
 use lib.Seq.{take-take}
-use lib.Dec.{lit≤}
 use Rattle.toeplitz.specs.Hash.{publishedHash}
 use Rattle.toeplitz.specs.TwoWay.{lastType, inputSize}
 use Rattle.packet.specs.Packets.{PacketType, noType, hashType, kindOf, inputStart, inputOf, none, typed, lookAt, lookOf}

@@ -1,12 +1,7 @@
 -- What readers ask of the packet question, over the definitions alone.
 -- Assumes nothing.
-use mathlib.Core.Path.{_≡_, refl, sym, ap, _∙_}
-use mathlib.Core.List.{List, _++_}
-use mathlib.Core.Bool.{Bool, true, false, cond}
-use Prim.Native.Nat.{ℕ, _%_, _≤_, _<_}
-use native.Mathlib.Nat.{mod-lt}
-use native.Mathlib.Omega.{arith}
-use lib.ListN.{length, getD}
+use Rattle.octets.specs.Prelude.{_≡_, refl, sym, ap, _∙_, List, _++_, Bool, true, false, cond, ℕ, _%_, _≤_, _<_, mod-lt, arith}
+use Rattle.octets.specs.Prelude.{length, getD}
 use Rattle.toeplitz.specs.Hash.{publishedHash}
 use Rattle.packet.specs.Packets.{PacketType, noType, hashType, isIpv4, isFragment, kindOf, inputOf, ipv4Source, ipv4Destination}
 use Rattle.packet.proofs.Fragments.{fragment-plain, addresses-input}

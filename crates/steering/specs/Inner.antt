@@ -1,10 +1,6 @@
 -- What the inner functions promise: no part of the public promise.
 -- Assumes nothing.
-use mathlib.Core.Path.{_≡_}
-use mathlib.Core.List.{List}
-use mathlib.Core.Bool.{cond}
-use Prim.Native.Nat.{ℕ, _+_, _≤_}
-use lib.ListN.{length, take}
+use Rattle.octets.specs.Prelude.{_≡_, List, cond, ℕ, _+_, _≤_, length, take}
 use Rattle.toeplitz.specs.Hash.{publishedHash}
 use Rattle.toeplitz.specs.TwoWay.{lastType, addressSize, inputSize}
 use Rattle.steering.specs.Steering.{isSet, plainType, Choice, unhashed, hashedTo}

@@ -1,11 +1,6 @@
 -- The type, hash and queue of a packet under the flags, key and mapping table of an interface.
 -- Assumes nothing.
-use mathlib.Core.Path.{_≡_}
-use mathlib.Core.List.{List}
-use mathlib.Core.Bool.{Bool, cond}
-use Prim.Native.Nat.{ℕ, _-_, _/_, _%_, _^_, _≤_}
-use lib.ListN.{length, getD}
-use lib.Dec.{eqb}
+use Rattle.octets.specs.Prelude.{_≡_, List, Bool, cond, ℕ, _-_, _/_, _%_, _^_, _≤_, length, getD, eqb}
 use Rattle.toeplitz.specs.Hash.{keyLength, publishedHash}
 use Rattle.packet.specs.Packets.{PacketType, noType, hashType, kindOf, inputOf}
 use Rattle.steering.specs.declared.Steered.{Steered}

@@ -1,9 +1,7 @@
 // Which queue a packet goes to, under the settings of an interface: the one question that answers a packet's type,
 // hash and queue together. Nothing is copied: key, table and packet are lent, and the hash input is a part of the
 // packet.
-ghost use mathlib.Core.Path.{_≡_};
-ghost use Prim.Native.Nat.{_≤_};
-ghost use lib.ListN.{length};
+ghost use Rattle.octets.specs.Prelude.{_≡_, _≤_, length};
 ghost use Rattle.toeplitz.specs.Hash.{maxInput, publishedHash};
 ghost use Rattle.toeplitz.specs.TwoWay.{lastType};
 ghost use Rattle.steering.specs.Steering.{Usable, isSet, hashedTo, steered, choiceOf};

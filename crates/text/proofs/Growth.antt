@@ -1,11 +1,7 @@
 -- Texts that grow: nothing added, one octet added, and one growth after another.
 -- Assumes nothing.
-use mathlib.Core.Path.{_≡_, refl, sym, ap, _∙_}
-use mathlib.Core.List.{List, [], _∷_, _++_, append-assoc, append-nil}
-use Prim.Native.Nat.{ℕ, _+_, _<_, _≤_}
-use native.Mathlib.Numerals.{add-one}
-use native.Mathlib.Omega.{arith}
-use lib.ListN.{length, getD, take, set, length-append, length-take}
+use Rattle.octets.specs.Prelude.{_≡_, refl, sym, ap, _∙_, List, [], _∷_, _++_, append-assoc, append-nil, ℕ, _+_, _<_, _≤_}
+use Rattle.octets.specs.Prelude.{add-one, arith, length, getD, take, set, length-append, length-take}
 use lib.Seq.{take-suc-set, take-suc}
 use Rattle.text.specs.Text.{textOf, Adds, Prints}
 use Rattle.text.specs.declared.Text.{Text}

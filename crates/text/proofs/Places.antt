@@ -1,11 +1,7 @@
 -- The fewest digits that hold a number: `placesIn` counts the decimal ones, and a bound on the number bounds them.
 -- Assumes nothing.
-use mathlib.Core.Path.{_≡_, ap}
-use Prim.Native.Nat.{ℕ, zero, suc, _-_, _/_, _^_, _<_, _≤_}
-use native.Mathlib.Nat.{pow-suc, pow-le-pow-right}
-use native.Mathlib.Decide.{decLt}
-use native.Mathlib.Omega.{arith}
-use borrow.Author.Tests.{lt-ltb, le-ltb}
+use Rattle.octets.specs.Prelude.{_≡_, ap, ℕ, zero, suc, _-_, _/_, _^_, _<_, _≤_, pow-suc, decLt, arith, lt-ltb, le-ltb}
+use native.Mathlib.Nat.{pow-le-pow-right}
 use Rattle.io.specs.Digits.{Fewest}
 use Rattle.text.specs.Ascii.{placesIn}
 

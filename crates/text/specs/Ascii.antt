@@ -1,11 +1,8 @@
 -- Words and numbers as the octets that a program prints.
 -- Assumes nothing.
-use mathlib.Core.List.{List, [], _∷_}
-use mathlib.Core.Bool.{cond}
-use Prim.Native.Nat.{ℕ, zero, suc, _/_}
+use Rattle.octets.specs.Prelude.{List, [], _∷_, cond, ℕ, zero, suc, _/_, ltb}
 use Prim.Native.Char.{code}
 use Prim.Native.String.{String, [] as noText, _∷_ as _andText_}
-use lib.Dec.{ltb}
 use Rattle.io.specs.Digits.{digits}
 
 -- the octets of a text of ASCII characters

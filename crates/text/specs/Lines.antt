@@ -1,10 +1,6 @@
 -- The lines that the programs print.
 -- Assumes nothing.
-use mathlib.Core.List.{List, _++_}
-use mathlib.Core.Bool.{cond}
-use Prim.Native.Nat.{ℕ}
-use lib.ListN.{length, take, drop}
-use lib.Dec.{eqb}
+use Rattle.octets.specs.Prelude.{List, _++_, cond, ℕ, length, take, drop, eqb}
 use Rattle.octets.specs.Outcome.{Outcome, value, refused}
 use Rattle.toeplitz.specs.Refusals.{keyLengthWrong}
 use Rattle.toeplitz.specs.Hash.{keyLength, hashOutcome}

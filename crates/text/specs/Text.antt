@@ -1,9 +1,6 @@
 -- A text that grows: what it holds, and what it is to add to it.
 -- Assumes nothing.
-use mathlib.Core.Path.{_≡_}
-use mathlib.Core.List.{List, _++_}
-use Prim.Native.Nat.{ℕ, _+_, _≤_}
-use lib.ListN.{length, take}
+use Rattle.octets.specs.Prelude.{_≡_, List, _++_, ℕ, _+_, _≤_, length, take}
 use Rattle.text.specs.declared.Text.{Text}
 
 -- the most octets that a text holds: 64 lines of a report's queues, at most 69 each, and two lines more

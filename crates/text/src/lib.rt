@@ -1,8 +1,6 @@
 // Answers as the lines that the programs print. A text is built by value, so a function's promise is one
 // equation: the text that it returns is the one that it took with certain octets behind it.
-ghost use mathlib.Core.Path.{_≡_};
-ghost use Prim.Native.Nat.{_≤_, min};
-ghost use lib.ListN.{length};
+ghost use Rattle.octets.specs.Prelude.{_≡_, _≤_, min, length};
 ghost use Rattle.toeplitz.specs.Hash.{keyLength, hashOutcomeOf};
 ghost use Rattle.toeplitz.specs.TwoWay.{twoWayOutcomeOf};
 ghost use Rattle.text.specs.Text.{Prints};

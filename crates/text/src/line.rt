@@ -1,7 +1,5 @@
 // One line behind a text.
-ghost use mathlib.Core.List.{_++_};
-ghost use Prim.Native.Nat.{_+_, _≤_};
-ghost use lib.ListN.{length};
+ghost use Rattle.octets.specs.Prelude.{_++_, _+_, _≤_, length};
 ghost use Rattle.toeplitz.specs.Hash.{hashOutcomeOf};
 ghost use Rattle.toeplitz.specs.TwoWay.{twoWayOutcomeOf};
 ghost use Rattle.text.specs.Text.{capacity, longestLine, longestTypeLine, Adds};

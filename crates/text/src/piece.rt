@@ -1,7 +1,5 @@
 // The pieces of a line: octets and numbers put behind a text.
-ghost use mathlib.Core.List.{[], _∷_};
-ghost use Prim.Native.Nat.{_+_, _≤_, _<_};
-ghost use lib.ListN.{length};
+ghost use Rattle.octets.specs.Prelude.{[], _∷_, _+_, _≤_, _<_, length};
 ghost use Rattle.text.specs.Ascii.{decimal, hex8};
 ghost use Rattle.text.specs.Text.{capacity, Adds};
 use crate::Text;

@@ -1,11 +1,8 @@
 -- The published hash is linear in the input and in the key: bit, window and term of an XOR are the XORs of the parts'.
 -- Assumes nothing.
-use mathlib.Core.Path.{_≡_, refl, sym, ap, ap₂, _∙_}
-use mathlib.Core.List.{List, [], _∷_}
-use Prim.Native.Nat.{ℕ, zero, suc, _+_, _*_, _/_, _%_, _^_, _-_, _<_}
-use native.Mathlib.Omega.{arith}
-use lib.ListN.{length, getD}
-use lib.Bits.{bitXor, xor-shr, xor-mod, xor-block, xor-zero-r, xor-self}
+use Rattle.octets.specs.Prelude.{_≡_, refl, sym, ap, ap₂, _∙_, List, [], _∷_, ℕ, zero, suc, _+_, _*_, _/_, _%_, _^_, _-_, _<_}
+use Rattle.octets.specs.Prelude.{arith, length, getD, bitXor, xor-zero-r}
+use lib.Bits.{xor-shr, xor-mod, xor-block, xor-self}
 use Rattle.toeplitz.specs.Xor.{xorOctets}
 use Rattle.toeplitz.specs.Hash.{bitAt, bitsAt, windowAt, whenSet, termAt, xorBelow, publishedHash}
 use Rattle.toeplitz.proofs.Sums.{bit-lt, below-same, below-xor}

@@ -1,11 +1,7 @@
 -- The lowest number that passes a test: `lowest` finds it exactly.
 -- Assumes nothing.
-use mathlib.Core.Path.{_≡_, refl, sym, ap, ap₂, _∙_}
-use mathlib.Core.Logic.{_↔_, _⊎_, inl, inr, ⊎-elim}
-use mathlib.Core.Bool.{Bool, true, false}
-use Prim.Native.Nat.{ℕ, zero, suc, _<_}
-use native.Mathlib.Decide.{ℕ-discrete}
-use native.Mathlib.Omega.{arith}
+use Rattle.octets.specs.Prelude.{_≡_, refl, sym, ap, ap₂, _∙_, _↔_, _⊎_, inl, inr, ⊎-elim, Bool, true, false, ℕ, zero, suc, _<_}
+use Rattle.octets.specs.Prelude.{ℕ-discrete, arith}
 use Rattle.toeplitz.specs.TwoWay.{Verdict, agree, differAt, orAt, lowest}
 
 -- no number below n passes; b is the first that does

@@ -1,16 +1,10 @@
 -- Where an octet or a bit of an input stands in its reverse, and the hash of a reverse.
 -- Assumes nothing.
-use mathlib.Core.Path.{_≡_, sym, ap, ap₂, _∙_}
-use mathlib.Core.List.{List, _++_}
-use mathlib.Core.Bool.{Bool, true, false}
-use Prim.Native.Nat.{ℕ, _+_, _*_, _/_, _%_, _^_, _-_, _≤_, _<_}
-use native.Mathlib.Decide.{decLt}
-use native.Mathlib.Omega.{arith}
-use lib.ListN.{length, getD, take, drop, length-append, length-take, length-drop, List·getD-append}
-use lib.Seq.{getD-append-add, getD-take, getD-drop}
-use lib.Dec.{ltb}
-use lib.Bits.{bitXor, xor-comm}
-use borrow.Author.Tests.{lt-ltb, le-ltb}
+use Rattle.octets.specs.Prelude.{_≡_, sym, ap, ap₂, _∙_, List, _++_, Bool, true, false, ℕ, _+_, _*_, _/_, _%_, _^_, _-_, _≤_, _<_}
+use Rattle.octets.specs.Prelude.{decLt, arith, length, getD, take, drop, length-append, length-take, length-drop}
+use Rattle.octets.specs.Prelude.{List·getD-append, getD-take, getD-drop, ltb, bitXor, lt-ltb, le-ltb}
+use lib.Seq.{getD-append-add}
+use lib.Bits.{xor-comm}
 use Rattle.toeplitz.specs.Hash.{bitAt, windowAt, whenSet, termAt, xorBelow, publishedHash}
 use Rattle.toeplitz.specs.TwoWay.{sizeOf, swapped}
 use Rattle.toeplitz.proofs.Sums.{below-same, below-split}

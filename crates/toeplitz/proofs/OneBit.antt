@@ -1,17 +1,11 @@
 -- Inputs with a single bit set: their octets, their bits, and their hash, which is the window at that bit.
 -- Assumes nothing.
-use mathlib.Core.Path.{_≡_, refl, ap, _∙_}
-use mathlib.Core.List.{List}
-use mathlib.Core.Bool.{Bool, true, false, _&&_}
-use Prim.Native.Nat.{ℕ, zero, suc, _*_, _/_, _%_, _^_, _-_, _<_}
+use Rattle.octets.specs.Prelude.{_≡_, refl, ap, _∙_, List, Bool, true, false, _&&_, ℕ, zero, suc, _*_, _/_, _%_, _^_, _-_, _<_}
+use Rattle.octets.specs.Prelude.{ℕ-discrete, arith, length, getD, replicate, length-set, length-replicate, getD-set-same}
+use Rattle.octets.specs.Prelude.{getD-set-other, T, eqb, eq-eqb, ne-eqb}
 use native.Mathlib.Nat.{zero-div}
-use native.Mathlib.Decide.{ℕ-discrete}
-use native.Mathlib.Omega.{arith}
-use lib.ListN.{length, getD, replicate, length-set, length-replicate}
-use lib.Seq.{getD-set-same, getD-set-other}
 use lib.Pow.{pow-lt}
-use lib.Dec.{T, eqb, eqb→eq}
-use borrow.Author.Tests.{eq-eqb, ne-eqb}
+use lib.Dec.{eqb→eq}
 use Rattle.toeplitz.specs.Hash.{bitAt, windowAt, whenSet, termAt, xorBelow, publishedHash}
 use Rattle.toeplitz.specs.TwoWay.{inputSize, IsInput, oneBit}
 use Rattle.toeplitz.proofs.Sums.{below-one}

@@ -1,11 +1,7 @@
 -- The reverse of an input of a type is an input of the type, and its own reverse is the input again.
 -- Assumes nothing.
-use mathlib.Core.Path.{_≡_, ap, _∙_}
-use mathlib.Core.List.{List}
-use Prim.Native.Nat.{ℕ, _<_}
-use native.Mathlib.Decide.{decLt}
-use native.Mathlib.Omega.{arith}
-use lib.ListN.{length, getD, List·getD-eq-default}
+use Rattle.octets.specs.Prelude.{_≡_, ap, _∙_, List, ℕ, _<_, decLt, arith, length, getD}
+use lib.ListN.{List·getD-eq-default}
 use lib.Seq.{ext-getD}
 use Rattle.octets.specs.Numbers.{AreOctets}
 use Rattle.toeplitz.specs.TwoWay.{sizeOf, addressSize, portSize, IsInput, swapped, reverseOf}

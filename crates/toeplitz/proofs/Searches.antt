@@ -1,10 +1,7 @@
 -- What the two searches of `two_way` say of the verdict.
 -- Assumes nothing.
-use mathlib.Core.Path.{_≡_, sym, ap, _∙_, subst₂, subst₃}
-use mathlib.Core.List.{List}
-use Prim.Native.Nat.{ℕ, _+_, _*_, _-_, _≤_, _<_}
-use native.Mathlib.Decide.{decLt}
-use native.Mathlib.Omega.{arith}
+use Rattle.octets.specs.Prelude.{_≡_, sym, ap, _∙_, List, ℕ, _+_, _*_, _-_, _≤_, _<_, decLt, arith}
+use mathlib.Core.Path.{subst₂, subst₃}
 use Rattle.toeplitz.specs.Hash.{windowAt}
 use Rattle.toeplitz.specs.TwoWay.{inputSize, addressSize, portSize, tellsApart, agree, differAt, verdict}
 use Rattle.toeplitz.specs.Inner.{FoundIn}

@@ -1,12 +1,10 @@
 -- XOR is associative, and what follows for the XOR of many numbers.
 -- Assumes nothing.
-use mathlib.Core.Path.{_≡_, refl, sym, ap, ap₂, _∙_}
-use Prim.Native.Nat.{ℕ, zero, suc, _+_, _*_, _/_, _%_, _<_}
-use native.Mathlib.Nat.{div-add-mod', add-zero, add-suc}
-use native.Mathlib.Decide.{ℕ-discrete}
-use native.Mathlib.Omega.{arith}
+use Rattle.octets.specs.Prelude.{_≡_, refl, sym, ap, ap₂, _∙_, ℕ, zero, suc, _+_, _*_, _/_, _%_, _<_, add-zero, ℕ-discrete, arith}
+use Rattle.octets.specs.Prelude.{bitXor, xor-zero-r}
+use native.Mathlib.Nat.{div-add-mod', add-suc}
 use lib.Arith.{bin-ind}
-use lib.Bits.{bitXor, xor-shr, xor-mod, xor-comm, xor-zero-r}
+use lib.Bits.{xor-shr, xor-mod, xor-comm}
 use Rattle.toeplitz.specs.Hash.{xorBelow}
 
 -- the digits above the lowest, and the lowest

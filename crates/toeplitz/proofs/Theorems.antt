@@ -1,17 +1,10 @@
 -- What readers ask of the calls, proved of the definitions that their contracts cite: demand 3 whole, the step of the window, the order of
 -- the refusals, and how to choose a key under which both directions meet.
 -- Assumes nothing.
-use mathlib.Core.Path.{_≡_, refl, sym, ap, ap₂, _∙_}
-use mathlib.Core.List.{List}
-use mathlib.Core.Logic.{_↔_, _⊎_, inl, inr}
-use mathlib.Core.Bool.{not, cond}
-use Prim.Native.Nat.{ℕ, zero, suc, _+_, _*_, _≤_, _<_}
-use native.Mathlib.Numerals.{add-one}
-use native.Mathlib.Omega.{arith}
-use lib.ListN.{length, getD}
-use lib.Bits.{bitXor, xor-lt}
-use lib.Dec.{eqb, lit≤}
-use borrow.Author.Tests.{eq-eqb, ne-eqb, eqb-true, eqb-false, not-true, not-false}
+use Rattle.octets.specs.Prelude.{_≡_, refl, sym, ap, ap₂, _∙_, List, _↔_, _⊎_, inl, inr, not, cond, ℕ, zero, suc, _+_, _*_, _≤_}
+use Rattle.octets.specs.Prelude.{_<_, add-one, arith, length, getD, bitXor, eqb, lit≤, eq-eqb, ne-eqb, eqb-true, eqb-false}
+use Rattle.octets.specs.Prelude.{not-true, not-false}
+use lib.Bits.{xor-lt}
 use Rattle.octets.specs.Numbers.{AreOctets}
 use Rattle.octets.specs.Outcome.{Outcome, value, refused, valueOr}
 use Rattle.toeplitz.specs.Refusals.{inputTooLong, keyLengthWrong, typeUnknown}

@@ -1,15 +1,8 @@
 -- Why single bits are enough for the two-way question: a bit tells an input from its reverse exactly where
 -- the window at the bit is not that at its mirror, and where all are equal so are all hashes.
 -- Assumes nothing.
-use mathlib.Core.Path.{_≡_, sym, ap, ap₂, _∙_}
-use mathlib.Core.List.{List}
-use mathlib.Core.Logic.{_↔_}
-use mathlib.Core.Bool.{true, false, not}
-use Prim.Native.Nat.{ℕ, _*_, _<_}
-use native.Mathlib.Omega.{arith}
-use lib.ListN.{length}
-use lib.Dec.{eqb}
-use borrow.Author.Tests.{eq-eqb, ne-eqb, eqb-true, not-false}
+use Rattle.octets.specs.Prelude.{_≡_, sym, ap, ap₂, _∙_, List, _↔_, true, false, not, ℕ, _*_, _<_, arith, length, eqb, eq-eqb}
+use Rattle.octets.specs.Prelude.{ne-eqb, eqb-true, not-false}
 use Rattle.toeplitz.specs.Hash.{bitAt, windowAt, whenSet, termAt, xorBelow, publishedHash}
 use Rattle.toeplitz.specs.TwoWay.{sizeOf, inputSize, IsInput, addressSize, portSize, swapped, EqualHashes, oneBit}
 use Rattle.toeplitz.specs.TwoWay.{tellsApart, agree, lowest, verdict}

@@ -1,16 +1,10 @@
 -- Windows of a key: from one to the next, and from four octets. The sum of a hash: from one input bit to the next.
 -- Assumes nothing.
-use mathlib.Core.Path.{_≡_, refl, sym, ap, ap₂, _∙_}
-use mathlib.Core.List.{List}
-use mathlib.Core.Bool.{Bool, cond}
-use Prim.Native.Nat.{ℕ, zero, suc, _+_, _*_, _/_, _%_, _^_, _-_, _<_}
-use native.Mathlib.Nat.{add-zero, zero-add, add-suc, add-assoc, zero-mul, mul-assoc, pow-suc}
-use native.Mathlib.Numerals.{add-one}
-use native.Mathlib.Omega.{arith}
-use lib.ListN.{getD}
-use lib.Dec.{eqb}
+use Rattle.octets.specs.Prelude.{_≡_, refl, sym, ap, ap₂, _∙_, List, Bool, cond, ℕ, zero, suc, _+_, _*_, _/_, _%_, _^_, _-_, _<_}
+use Rattle.octets.specs.Prelude.{add-zero, zero-add, add-assoc, pow-suc, add-one, arith, getD, eqb, bitXor, xor-zero-r}
+use native.Mathlib.Nat.{add-suc, zero-mul, mul-assoc}
 use lib.Pow.{shr-shr, shr-lt}
-use lib.Bits.{bitOr, bitXor, or-step, or-self, or-zero-r, or-block, xor-zero-r}
+use lib.Bits.{bitOr, or-step, or-self, or-zero-r, or-block}
 use Rattle.octets.specs.Numbers.{AreOctets}
 use Rattle.toeplitz.specs.Hash.{bitAt, bitsAt, windowAt, whenSet, termAt, xorBelow}
 use Rattle.toeplitz.specs.Step.{stepped, fourOctets}

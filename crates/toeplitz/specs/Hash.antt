@@ -1,11 +1,6 @@
 -- The published hash of a key and an input, and what a hash call answers.
 -- Assumes nothing.
-use mathlib.Core.List.{List}
-use mathlib.Core.Bool.{cond}
-use Prim.Native.Nat.{ℕ, zero, suc, _+_, _-_, _*_, _/_, _%_, _^_}
-use lib.ListN.{length, getD}
-use lib.Dec.{eqb, leb}
-use lib.Bits.{bitXor}
+use Rattle.octets.specs.Prelude.{List, cond, ℕ, zero, suc, _+_, _-_, _*_, _/_, _%_, _^_, length, getD, eqb, leb, bitXor}
 use Rattle.octets.specs.Outcome.{Outcome, value, refused}
 use Rattle.toeplitz.specs.Refusals.{inputTooLong, keyLengthWrong}
 use Rattle.toeplitz.specs.declared.HashAnswer.{HashAnswer}

@@ -1,8 +1,6 @@
 -- What the private functions promise each other. Nothing here is needed to read the promises of the calls.
 -- Assumes nothing.
-use mathlib.Core.Path.{_≡_}
-use mathlib.Core.List.{List}
-use Prim.Native.Nat.{ℕ, _+_, _<_}
+use Rattle.octets.specs.Prelude.{_≡_, List, ℕ, _+_, _<_}
 use Rattle.toeplitz.specs.Hash.{windowAt, termAt, xorBelow}
 use Rattle.toeplitz.specs.declared.directions.Found.{Found}
 use Rattle.toeplitz.specs.declared.directions.Found.the-variants.{At, Nothing}

@@ -1,8 +1,6 @@
 -- The step of the window: how one window is made of the one before it and the next key bit.
 -- Assumes nothing.
-use mathlib.Core.List.{List}
-use Prim.Native.Nat.{ℕ, zero, suc, _+_, _*_, _%_}
-use lib.ListN.{getD}
+use Rattle.octets.specs.Prelude.{List, ℕ, zero, suc, _+_, _*_, _%_, getD}
 use Rattle.toeplitz.specs.Hash.{bitAt}
 
 -- the step: the top bit of the window gone, and the next key bit drawn in below the others

@@ -1,11 +1,7 @@
 -- The inputs of each hash type, the reverse of an input, and what the two-way question answers.
 -- Assumes nothing.
-use mathlib.Core.Path.{_≡_}
-use mathlib.Core.List.{List, _++_}
-use mathlib.Core.Bool.{Bool, true, false, not, cond}
-use Prim.Native.Nat.{ℕ, zero, suc, _+_, _-_, _*_, _/_, _%_, _^_, _<_}
-use lib.ListN.{length, getD, take, drop, set, replicate}
-use lib.Dec.{eqb, leb}
+use Rattle.octets.specs.Prelude.{_≡_, List, _++_, Bool, true, false, not, cond, ℕ, zero, suc, _+_, _-_, _*_, _/_, _%_, _^_, _<_}
+use Rattle.octets.specs.Prelude.{length, getD, take, drop, set, replicate, eqb, leb}
 use Rattle.octets.specs.Numbers.{AreOctets}
 use Rattle.octets.specs.Outcome.{Outcome, value, refused}
 use Rattle.toeplitz.specs.Refusals.{keyLengthWrong, typeUnknown}

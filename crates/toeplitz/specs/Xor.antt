@@ -1,8 +1,6 @@
 -- The XOR of two keys, or of two inputs of one length: octet by octet.
 -- Assumes nothing.
-use mathlib.Core.List.{List, [], _∷_}
-use Prim.Native.Nat.{ℕ}
-use lib.Bits.{bitXor}
+use Rattle.octets.specs.Prelude.{List, [], _∷_, ℕ, bitXor}
 
 -- (of two lists of unequal length, the longer one's other octets stay)
 unfoldable pub xorOctets : List ℕ → List ℕ → List ℕ

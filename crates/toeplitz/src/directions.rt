@@ -1,8 +1,6 @@
 // The two-way question: the windows of the two addresses are compared, then those of the two ports. An
 // input's bit and its place in the reverse count alike exactly where their windows are equal.
-ghost use mathlib.Core.Path.{_≡_};
-ghost use Prim.Native.Nat.{_+_, _*_, _≤_};
-ghost use lib.ListN.{length};
+ghost use Rattle.octets.specs.Prelude.{_≡_, _+_, _*_, _≤_, length};
 ghost use Rattle.toeplitz.specs.Hash.{keyLength, maxInput};
 ghost use Rattle.toeplitz.specs.TwoWay.{lastType, addressSize, portSize, twoWayOutcome, twoWayOutcomeOf};
 ghost use Rattle.toeplitz.specs.Inner.{FoundIn};

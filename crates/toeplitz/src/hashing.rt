@@ -1,9 +1,5 @@
 // The hash: the XOR of the windows at the set input bits. Key and input are read in place, and no array is made.
-ghost use mathlib.Core.Path.{_≡_};
-ghost use mathlib.Core.Bool.{cond};
-ghost use Prim.Native.Nat.{_+_, _*_, _<_, _≤_};
-ghost use lib.ListN.{length};
-ghost use lib.Bits.{bitXor};
+ghost use Rattle.octets.specs.Prelude.{_≡_, cond, _+_, _*_, _<_, _≤_, length, bitXor};
 ghost use Rattle.octets.specs.Outcome.{valueOr};
 ghost use Rattle.toeplitz.specs.Hash.{keyLength, maxInput, publishedHash, hashOutcome, hashOutcomeOf};
 ghost use Rattle.toeplitz.specs.Inner.{hashBelow};

@@ -1,8 +1,5 @@
 // The windows of a key: 32 bits each, read in place from the lent octets.
-ghost use mathlib.Core.Path.{_≡_};
-ghost use Prim.Native.Nat.{_+_, _*_, _<_, _≤_};
-ghost use lib.ListN.{length};
-ghost use lib.Dec.{eqb};
+ghost use Rattle.octets.specs.Prelude.{_≡_, _+_, _*_, _<_, _≤_, length, eqb};
 ghost use Rattle.toeplitz.specs.Hash.{keyLength, bitAt, windowAt};
 ghost use Rattle.toeplitz.specs.Step.{fourOctets};
 

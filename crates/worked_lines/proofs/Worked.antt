@@ -1,11 +1,6 @@
 -- The worked lines hold: hashes, queue and offsets by computation, the two-way answers by the law that finds them from windows alone.
 -- Assumes nothing.
-use mathlib.Core.Path.{_≡_, refl, _∙_}
-use mathlib.Core.List.{List}
-use mathlib.Core.Bool.{not}
-use Prim.Native.Nat.{ℕ, _*_, _≤_}
-use lib.Dec.{eqb, lit≤}
-use lib.ListN.{length}
+use Rattle.octets.specs.Prelude.{_≡_, refl, _∙_, List, not, ℕ, _*_, _≤_, eqb, lit≤, length}
 use Rattle.octets.specs.Outcome.{value}
 use Rattle.toeplitz.specs.Hash.{keyLength, bitsAt, windowAt, whenSet, termAt, xorBelow, publishedHash}
 use Rattle.toeplitz.specs.TwoWay.{lastType, inputSize, Verdict, lowest, twoWayOutcome}

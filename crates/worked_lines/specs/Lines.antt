@@ -1,9 +1,6 @@
 -- The worked lines as rows: each kind of line has a constructor, and `Holds` says what it claims of the definitions.
 -- Assumes nothing.
-use mathlib.Core.Path.{_≡_}
-use mathlib.Core.List.{List, [], _∷_, _++_}
-use Prim.Native.Nat.{ℕ, zero, suc}
-use lib.ListN.{replicate, set}
+use Rattle.octets.specs.Prelude.{_≡_, List, [], _∷_, _++_, ℕ, zero, suc, replicate, set}
 use Rattle.octets.specs.Outcome.{value}
 use Rattle.toeplitz.specs.Hash.{hashOutcome}
 use Rattle.toeplitz.specs.TwoWay.{Verdict, agree, differAt, twoWayOutcome}

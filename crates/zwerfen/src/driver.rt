@@ -1,5 +1,5 @@
 // The guest's end of the ring, for a driver: the guest is in the driver's memory.
-ghost use mathlib.Core.Path.{_≡_};
+ghost use Rattle.octets.specs.Prelude.{_≡_};
 ghost use Rattle.guest_messages.specs.Writer.{getFlagsMessage, setFlagsMessage, setKeyMessage, setMappingMessage};
 ghost use Rattle.guest_steps.specs.Guest.{Good, stateOf, guestAtSetup};
 ghost use Rattle.guest_steps.specs.Calls.{startOf, eventOf};

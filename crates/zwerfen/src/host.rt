@@ -1,5 +1,5 @@
 // One interface of the host, in the host's memory.
-ghost use mathlib.Core.Path.{_≡_};
+ghost use Rattle.octets.specs.Prelude.{_≡_};
 ghost use Rattle.octets.specs.Outcome.{numberOf, placed, itself};
 ghost use Rattle.interface.specs.States.{Good, stateOf, setUpOutcome, steeredBy};
 ghost use Rattle.interface.specs.Events.{eventOf};

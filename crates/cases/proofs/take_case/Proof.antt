@@ -1,8 +1,6 @@
 -- `cases::take_case` meets its contract: the body of a case that is whole stands behind its start.
 -- Assumes nothing.
-use native.Mathlib.Omega.{arith}
-use lib.ListN.{length}
-use borrow.Author.Needs.{needs}
+use Rattle.octets.specs.Prelude.{arith, length, needs}
 use Rattle.cases.specs.Cases.{Within}
 use Rattle.cases.specs.declared.Case.the-variants.{Body}
 use Rattle.cases.proofs.take_case.Statement.{statement}

@@ -1,6 +1,6 @@
 -- `event_vectors::answer` meets its contract: each case leaves a good interface, and the page as long as it is.
 -- Assumes nothing.
-use borrow.Author.Needs.{needs}
+use Rattle.octets.specs.Prelude.{needs}
 use Rattle.event_vectors.proofs.answer.Statement.{statement}
 use Rattle.event_vectors.proofs.answer.Tie as tie
 

@@ -1,9 +1,6 @@
 -- `event_vectors::main` ends, since it reads ten files at most. Every file leaves a good interface.
 -- Assumes nothing.
-use mathlib.Core.Path.{_≡_}
-use Prim.Native.Nat.{_≤_, _-_}
-use borrow.Author.Needs.{needs}
-use lib.ListN.{length}
+use Rattle.octets.specs.Prelude.{_≡_, _≤_, _-_, needs, length}
 use Rattle.interface.specs.States.{Good, interfaceIn}
 use Rattle.event_vectors.proofs.main.Statement.{statement}
 use Rattle.event_vectors.proofs.main.Tie as tie

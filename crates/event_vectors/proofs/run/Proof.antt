@@ -1,9 +1,6 @@
 -- `event_vectors::run` ends and reads no octet outside: each case ends behind its start. Every case leaves a good interface.
 -- Assumes nothing.
-use mathlib.Core.Path.{_≡_}
-use Prim.Native.Nat.{_≤_, _-_}
-use borrow.Author.Needs.{needs}
-use lib.ListN.{length}
+use Rattle.octets.specs.Prelude.{_≡_, _≤_, _-_, needs, length}
 use Rattle.interface.specs.States.{Good, interfaceIn}
 use Rattle.event_vectors.proofs.run.Statement.{statement}
 use Rattle.event_vectors.proofs.run.Tie as tie

@@ -1,11 +1,6 @@
 -- `guest_starts::begin` meets its contract: what is stored is the guest with the request outstanding, and it is written on.
 -- Assumes nothing.
-use mathlib.Core.Path.{_≡_, sym, ap, subst, _∙_}
-use mathlib.Core.List.{List, []}
-use Prim.Native.Nat.{ℕ, _^_, _<_}
-use native.Mathlib.Omega.{arith}
-use lib.ListN.{length}
-use borrow.Author.Needs.{needs}
+use Rattle.octets.specs.Prelude.{_≡_, sym, ap, subst, _∙_, List, [], ℕ, _^_, _<_, arith, length, needs}
 use Rattle.ring.specs.Writing.{GoodOutgoing}
 use Rattle.guest_steps.specs.Guest.{GuestState, maxRequest, outgoing}
 use Rattle.guest_steps.specs.Calls.{wroteOn}

@@ -1,6 +1,6 @@
 -- `guest_starts::ready` meets its contract: what every call finds, and one test more.
 -- Assumes nothing.
-use borrow.Author.Needs.{needs}
+use Rattle.octets.specs.Prelude.{needs}
 use Rattle.guest_steps.specs.Guest.{guestIn}
 use Rattle.guest_steps.proofs.Finds.{readied-refused, readied-idle, readied-busy}
 use Rattle.guest_starts.proofs.ready.Statement.{statement}

@@ -1,10 +1,6 @@
 -- `guest_vectors::run` ends and reads no octet outside: each case ends behind its start. Every case leaves both ends good.
 -- Assumes nothing.
-use mathlib.Core.Path.{_≡_}
-use Prim.Native.Nat.{_≤_, _-_}
-use native.Mathlib.Omega.{arith}
-use borrow.Author.Needs.{needs}
-use lib.ListN.{length}
+use Rattle.octets.specs.Prelude.{_≡_, _≤_, _-_, arith, needs, length}
 use Rattle.interface.specs.States.{Good, interfaceIn}
 use Rattle.guest_steps.specs.Guest.{Good as GoodGuest, guestIn}
 use Rattle.guest_vectors.proofs.run.Statement.{statement}

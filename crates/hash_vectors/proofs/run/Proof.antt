@@ -1,9 +1,6 @@
 -- `hash_vectors::run` ends and reads no octet outside: each case's body stands behind its start.
 -- Assumes nothing.
-use Prim.Native.Nat.{_≤_, _-_}
-use native.Mathlib.Omega.{arith}
-use borrow.Author.Needs.{needs}
-use lib.ListN.{length}
+use Rattle.octets.specs.Prelude.{_≤_, _-_, arith, needs, length}
 use Rattle.cases.specs.Cases.{Within}
 use Rattle.cases.specs.declared.Case.the-variants.{Body}
 use Rattle.hash_vectors.proofs.run.Statement.{statement}

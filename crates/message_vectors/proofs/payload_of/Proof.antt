@@ -1,9 +1,6 @@
 -- `message_vectors::payload_of` ends and reads no octet outside.
 -- Assumes nothing.
-use mathlib.Core.Path.{_≡_}
-use Prim.Native.Nat.{_-_, _≤_}
-use lib.ListN.{length}
-use borrow.Author.Needs.{needs}
+use Rattle.octets.specs.Prelude.{_≡_, _-_, _≤_, length, needs}
 use Rattle.message_vectors.proofs.payload_of.Statement.{statement}
 use Rattle.message_vectors.proofs.payload_of.Tie as tie
 

@@ -1,8 +1,6 @@
 -- `octets::copy` meets its contract: once the words are copied, the rest is.
 -- Assumes nothing.
-use mathlib.Core.Path.{_≡_}
-use lib.ListN.{length}
-use borrow.Author.Needs.{needs}
+use Rattle.octets.specs.Prelude.{_≡_, length, needs}
 use Rattle.octets.proofs.Copies.{copied-start}
 use Rattle.octets.proofs.copy.Statement.{statement}
 use Rattle.octets.proofs.copy.Tie as tie

@@ -1,11 +1,6 @@
 -- `octets::copy_rest` meets its contract: dst is what it was, with src's first i octets at its start.
 -- Assumes nothing.
-use mathlib.Core.Path.{_≡_, refl}
-use mathlib.Core.List.{_++_}
-use Prim.Native.Nat.{_≤_, _-_}
-use native.Mathlib.Omega.{arith}
-use lib.ListN.{length, take, drop, length-set}
-use borrow.Author.Needs.{needs}
+use Rattle.octets.specs.Prelude.{_≡_, refl, _++_, _≤_, _-_, arith, length, take, drop, length-set, needs}
 use Rattle.octets.proofs.Copies.{copied-next, copied-all}
 use Rattle.octets.proofs.copy_rest.Statement.{statement}
 use Rattle.octets.proofs.copy_rest.Tie as tie

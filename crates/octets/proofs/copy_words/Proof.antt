@@ -1,12 +1,7 @@
 -- `octets::copy_words` meets its contract: dst is what it was, with src's first i octets at its start.
 -- Assumes nothing.
-use mathlib.Core.Path.{_≡_, refl, ap, _∙_}
-use mathlib.Core.List.{_++_}
-use Prim.Native.Nat.{ℕ, _+_, _≤_, _-_}
-use native.Mathlib.Omega.{arith}
-use lib.ListN.{length, take, drop}
-use lib.Seq.{sets, length-sets}
-use borrow.Author.Needs.{needs}
+use Rattle.octets.specs.Prelude.{_≡_, refl, ap, _∙_, _++_, ℕ, _+_, _≤_, _-_, arith, length, take, drop, sets, length-sets}
+use Rattle.octets.specs.Prelude.{needs}
 use Rattle.octets.specs.Numbers.{octetsOf}
 use Rattle.octets.proofs.Copies.{copied-some}
 use Rattle.octets.proofs.Numbers.{octets-number}

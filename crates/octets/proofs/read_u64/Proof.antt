@@ -1,8 +1,6 @@
 -- `octets::read_u64` meets its contract: eight octets are four and four.
 -- Assumes nothing.
-use mathlib.Core.Path.{sym, ap₂, _∙_}
-use Prim.Native.Nat.{ℕ, _+_, _*_}
-use borrow.Author.Needs.{needs}
+use Rattle.octets.specs.Prelude.{sym, ap₂, _∙_, ℕ, _+_, _*_, needs}
 use Rattle.octets.proofs.Numbers.{number-add}
 use Rattle.octets.proofs.read_u64.Statement.{statement}
 use Rattle.octets.proofs.read_u64.Tie as tie

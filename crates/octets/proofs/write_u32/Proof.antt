@@ -1,8 +1,6 @@
 -- `octets::write_u32` meets its contract: the four stores are those of `sets`.
 -- Assumes nothing.
-use native.Mathlib.Omega.{arith}
-use lib.ListN.{length-set}
-use borrow.Author.Needs.{needs}
+use Rattle.octets.specs.Prelude.{arith, length-set, needs}
 use Rattle.octets.proofs.Numbers.{stored-four}
 use Rattle.octets.proofs.write_u32.Statement.{statement}
 use Rattle.octets.proofs.write_u32.Tie as tie

@@ -1,7 +1,6 @@
 -- `octets::write_u64` meets its contract: eight octets are four and four.
 -- Assumes nothing.
-use mathlib.Core.Path.{_∙_}
-use borrow.Author.Needs.{needs}
+use Rattle.octets.specs.Prelude.{_∙_, needs}
 use Rattle.octets.proofs.Numbers.{stored-eight}
 use Rattle.octets.proofs.write_u64.Statement.{statement}
 use Rattle.octets.proofs.write_u64.Tie as tie

@@ -1,11 +1,6 @@
 -- `packet::is_fragment` meets its contract: the two octets as one number, under the mask, tell a fragment.
 -- Assumes nothing.
-use mathlib.Core.Path.{ap, _∙_}
-use mathlib.Core.Bool.{not}
-use Prim.Native.Nat.{ℕ}
-use lib.Bits.{bitAnd}
-use lib.Dec.{eqb}
-use borrow.Author.Needs.{needs}
+use Rattle.octets.specs.Prelude.{ap, _∙_, not, ℕ, bitAnd, eqb, needs}
 use Rattle.packet.specs.Packets.{fragmentField}
 use Rattle.packet.proofs.Fragments.{fragment-told}
 use Rattle.packet.proofs.is_fragment.Statement.{statement}

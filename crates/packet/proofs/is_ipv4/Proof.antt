@@ -1,11 +1,6 @@
 -- `packet::is_ipv4` meets its contract: the octet is looked at only where the packet is long enough.
 -- Assumes nothing.
-use mathlib.Core.Path.{refl}
-use Prim.Native.Nat.{_≤_, _<_}
-use native.Mathlib.Omega.{arith}
-use lib.ListN.{length}
-use borrow.Author.Needs.{needs}
-use borrow.Author.Tests.{le-leb, lt-leb}
+use Rattle.octets.specs.Prelude.{refl, _≤_, _<_, arith, length, needs, le-leb, lt-leb}
 use Rattle.packet.specs.Packets.{isIpv4}
 use Rattle.packet.proofs.is_ipv4.Statement.{statement}
 use Rattle.packet.proofs.is_ipv4.Tie as tie

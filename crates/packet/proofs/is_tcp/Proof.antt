@@ -1,8 +1,6 @@
 -- `packet::is_tcp` meets its contract: the octet is looked at only where the packet is long enough.
 -- Assumes nothing.
-use mathlib.Core.Path.{refl}
-use borrow.Author.Needs.{needs}
-use borrow.Author.Tests.{le-leb, lt-leb}
+use Rattle.octets.specs.Prelude.{refl, needs, le-leb, lt-leb}
 use Rattle.packet.specs.Packets.{isTcp}
 use Rattle.packet.proofs.is_tcp.Statement.{statement}
 use Rattle.packet.proofs.is_tcp.Tie as tie

@@ -1,7 +1,6 @@
 -- `packet::look` meets its contract: each return has passed the tests of its kind.
 -- Assumes nothing.
-use mathlib.Core.Path.{sym, ap, _∙_}
-use borrow.Author.Needs.{needs}
+use Rattle.octets.specs.Prelude.{sym, ap, _∙_, needs}
 use Rattle.packet.specs.Packets.{lookOf}
 use Rattle.packet.proofs.Looks.{found-ipv4-tcp, found-ipv4, found-ipv6-tcp, found-ipv6, found-none}
 use Rattle.packet.proofs.look.Statement.{statement}

@@ -1,10 +1,9 @@
 -- `report::report_on` meets its contract: the lengths of the files, then the settings, then the capture.
 -- Assumes nothing.
-use mathlib.Core.Path.{sym, ap, _∙_}
+use Rattle.octets.specs.Prelude.{sym, ap, _∙_, needs}
 use Rattle.settings_file.specs.Loading.{outcomeOf, settingsHeld}
 use Rattle.settings_file.specs.declared.Answer.{Answer}
 use Rattle.report.proofs.Orders.{long-settings, long-capture, settings-refused, settings-loaded}
-use borrow.Author.Needs.{needs}
 use Rattle.report.proofs.report_on.Statement.{statement}
 use Rattle.report.proofs.report_on.Tie as tie
 

@@ -1,10 +1,9 @@
 -- `report::report_under` meets its contract: the header first, then the records.
 -- Assumes nothing.
-use mathlib.Core.Path.{sym, ap, _∙_}
+use Rattle.octets.specs.Prelude.{sym, ap, _∙_, needs}
 use Rattle.capture.specs.Header.{headerOutcomeOf}
 use Rattle.settings_file.specs.Loading.{settingsHeld}
 use Rattle.report.proofs.Orders.{header-refused, header-read}
-use borrow.Author.Needs.{needs}
 use Rattle.report.proofs.report_under.Statement.{statement}
 use Rattle.report.proofs.report_under.Tie as tie
 

@@ -1,6 +1,6 @@
 -- `report_text::counted_lines` meets its contract: three growths behind the lines of the queues.
 -- Assumes nothing.
-use borrow.Author.Needs.{needs}
+use Rattle.octets.specs.Prelude.{needs}
 use Rattle.text.proofs.Growth.{adds-then, prints-then}
 use Rattle.report_text.specs.ReportLines.{countedLines}
 use Rattle.report_text.proofs.counted_lines.Statement.{statement}

@@ -1,7 +1,6 @@
 -- `report_text::with_queue` meets its contract: four growths, one after the other.
 -- Assumes nothing.
-use native.Mathlib.Omega.{arith}
-use borrow.Author.Needs.{needs}
+use Rattle.octets.specs.Prelude.{arith, needs}
 use Rattle.text.proofs.Growth.{adds-then}
 use Rattle.report_text.proofs.with_queue.Statement.{statement}
 use Rattle.report_text.proofs.with_queue.Tie as tie

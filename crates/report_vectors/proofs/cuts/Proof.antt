@@ -1,8 +1,6 @@
 -- `report_vectors::cuts` ends, and cuts inside the file.
 -- Assumes nothing.
-use Prim.Native.Nat.{_-_, _≤_}
-use lib.ListN.{length}
-use borrow.Author.Needs.{needs}
+use Rattle.octets.specs.Prelude.{_-_, _≤_, length, needs}
 use Rattle.report_vectors.proofs.cuts.Statement.{statement}
 use Rattle.report_vectors.proofs.cuts.Tie as tie
 

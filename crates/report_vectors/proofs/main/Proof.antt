@@ -1,9 +1,6 @@
 -- `report_vectors::main` ends, since it reads ten files of cases at most, and what it keeps fits its buffers.
 -- Assumes nothing.
-use mathlib.Core.Path.{_≡_}
-use Prim.Native.Nat.{_≤_, _-_}
-use borrow.Author.Needs.{needs}
-use lib.ListN.{length}
+use Rattle.octets.specs.Prelude.{_≡_, _≤_, _-_, needs, length}
 use Rattle.report_vectors.specs.Keeping.{Fits}
 use Rattle.report_vectors.proofs.main.Statement.{statement}
 use Rattle.report_vectors.proofs.main.Tie as tie

@@ -1,11 +1,7 @@
 -- `report_vectors::run` ends and reads no octet outside: each case's body stands behind its start. No case keeps a file
 -- that does not fit its buffer.
 -- Assumes nothing.
-use mathlib.Core.Path.{_≡_}
-use Prim.Native.Nat.{_≤_, _-_}
-use native.Mathlib.Omega.{arith}
-use borrow.Author.Needs.{needs}
-use lib.ListN.{length}
+use Rattle.octets.specs.Prelude.{_≡_, _≤_, _-_, arith, needs, length}
 use Rattle.cases.specs.Cases.{Within}
 use Rattle.cases.specs.declared.Case.the-variants.{Body}
 use Rattle.report_vectors.specs.Keeping.{Fits}

@@ -1,12 +1,7 @@
 -- `settings_file::carry_out` meets its contract: the library carries the message out on copies, from which the settings left
 -- are put together, and the status stands in the ack behind its header.
 -- Assumes nothing.
-use mathlib.Core.Path.{_≡_, ap, _∙_}
-use mathlib.Core.List.{List}
-use Prim.Native.Nat.{ℕ}
-use native.Mathlib.Omega.{arith}
-use lib.ListN.{length}
-use borrow.Author.Needs.{needs}
+use Rattle.octets.specs.Prelude.{_≡_, ap, _∙_, List, ℕ, arith, length, needs}
 use Rattle.octets.specs.Numbers.{numberAt}
 use Rattle.messages.specs.Wire.{headerSize, fieldSize}
 use Rattle.messages.specs.Requests.{Carried, maxAck}

@@ -1,11 +1,6 @@
 -- `settings_file::carry_out_all` meets its contract: what was carried out and what is left come to what all messages come to.
 -- Assumes nothing.
-use mathlib.Core.Path.{_≡_, refl}
-use Prim.Native.Nat.{_-_, _≤_}
-use native.Mathlib.Omega.{arith}
-use lib.ListN.{length, drop, length-drop}
-use lib.Seq.{length-take-le}
-use borrow.Author.Needs.{needs}
+use Rattle.octets.specs.Prelude.{_≡_, refl, _-_, _≤_, arith, length, drop, length-drop, length-take-le, needs}
 use Rattle.messages.specs.Settings.{Good}
 use Rattle.settings_file.specs.Loading.{settingsFrom, settingsHeld}
 use Rattle.settings_file.proofs.Firsts.{carry-end, carry-stop, carry-inside, carry-next}

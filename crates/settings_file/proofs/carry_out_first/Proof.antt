@@ -1,12 +1,6 @@
 -- `settings_file::carry_out_first` meets its contract: a message that is cut short or not acked with success is refused.
 -- Assumes nothing.
-use mathlib.Core.Path.{_≡_, ap₂, subst}
-use mathlib.Core.Bool.{true}
-use mathlib.Core.List.{List}
-use Prim.Native.Nat.{ℕ, _+_, _-_}
-use native.Mathlib.Omega.{arith}
-use lib.ListN.{length, take, drop}
-use borrow.Author.Tests.{le-leb, lt-leb}
+use Rattle.octets.specs.Prelude.{_≡_, ap₂, subst, true, List, ℕ, _+_, _-_, arith, length, take, drop, le-leb, lt-leb, needs}
 use Rattle.messages.specs.Wire.{headerSize, typeIn, sizeIn}
 use Rattle.messages.specs.Requests.{Carried, carriedOut}
 use Rattle.messages.specs.Settings.{Settings}
@@ -15,7 +9,6 @@ use Rattle.ring.specs.Streams.{beginsWhole}
 use Rattle.settings_file.specs.Loading.{settingsHeld}
 use Rattle.settings_file.specs.Inner.{LeavesAcked, Keeps}
 use Rattle.settings_file.proofs.Firsts.{first-cut, first-refused, first-done}
-use borrow.Author.Needs.{needs}
 use Rattle.settings_file.proofs.carry_out_first.Statement.{statement}
 use Rattle.settings_file.proofs.carry_out_first.Tie as tie
 

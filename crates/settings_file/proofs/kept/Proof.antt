@@ -1,12 +1,8 @@
 -- `settings_file::kept` meets its contract: what is copied is the payload, unless it is longer.
 -- Assumes nothing.
-use mathlib.Core.Path.{_≡_, refl, _∙_}
-use Prim.Native.Nat.{_-_}
-use native.Mathlib.Omega.{arith}
-use lib.ListN.{replicate}
+use Rattle.octets.specs.Prelude.{_≡_, refl, _∙_, _-_, arith, replicate, needs}
 use Rattle.messages.specs.Wire.{maxPayload}
 use Rattle.settings_file.proofs.Firsts.{keeps-copied}
-use borrow.Author.Needs.{needs}
 use Rattle.settings_file.proofs.kept.Statement.{statement}
 use Rattle.settings_file.proofs.kept.Tie as tie
 

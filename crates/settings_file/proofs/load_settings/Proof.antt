@@ -1,18 +1,12 @@
 -- `settings_file::load_settings` meets its contract: the queue count first, then the messages behind it.
 -- Assumes nothing.
-use mathlib.Core.Path.{_≡_, sym, ap, _∙_}
-use mathlib.Core.List.{List}
-use Prim.Native.Nat.{ℕ, _-_, _<_}
-use native.Mathlib.Omega.{arith}
-use lib.ListN.{length, getD, drop, length-drop}
-use lib.Seq.{take-all}
+use Rattle.octets.specs.Prelude.{_≡_, sym, ap, _∙_, List, ℕ, _-_, _<_, arith, length, getD, drop, length-drop, take-all, needs}
 use Rattle.octets.specs.Outcome.{numberOf}
 use Rattle.messages.specs.Settings.{Settings, Good}
 use Rattle.interface.specs.States.{setUpOutcome, setUpNumber}
 use Rattle.settings_file.specs.Loading.{settingsFrom, settingsOutcome, settingsHeld}
 use Rattle.settings_file.specs.Inner.{settingsSetUp}
 use Rattle.settings_file.proofs.Loads.{set-up-good, load-refused, load-done}
-use borrow.Author.Needs.{needs}
 use Rattle.settings_file.proofs.load_settings.Statement.{statement}
 use Rattle.settings_file.proofs.load_settings.Tie as tie
 

@@ -1,9 +1,7 @@
 -- `settings_file::queue_count` meets its contract: a missing octet reads as 0.
 -- Assumes nothing.
-use mathlib.Core.Path.{sym}
-use native.Mathlib.Omega.{arith}
+use Rattle.octets.specs.Prelude.{sym, arith, needs}
 use lib.ListN.{List·getD-eq-default}
-use borrow.Author.Needs.{needs}
 use Rattle.settings_file.proofs.queue_count.Statement.{statement}
 use Rattle.settings_file.proofs.queue_count.Tie as tie
 

@@ -1,9 +1,7 @@
 -- `settings_file::set_up` meets its contract: the library sets up in place, and where it refuses, the placeholder stays. Either
 -- settings are good, so their numbers fit an octet.
 -- Assumes nothing.
-use mathlib.Core.Path.{_≡_, ap}
-use Prim.Native.Nat.{_≤_}
-use borrow.Author.Needs.{needs}
+use Rattle.octets.specs.Prelude.{_≡_, ap, _≤_, needs}
 use Rattle.messages.specs.Settings.{Settings, maxEntries, Good}
 use Rattle.messages.proofs.Powers.{listed-parts}
 use Rattle.interface.specs.States.{HostState, settingsIn}

@@ -1,8 +1,6 @@
 -- `steering::at_hash` meets its contract: the hash modulo the entry count is below it.
 -- Assumes nothing.
-use mathlib.Core.Path.{refl}
-use native.Mathlib.Nat.{mod-lt}
-use borrow.Author.Needs.{needs}
+use Rattle.octets.specs.Prelude.{refl, mod-lt, needs}
 use Rattle.steering.specs.Steering.{queueOf}
 use Rattle.steering.proofs.at_hash.Statement.{statement}
 use Rattle.steering.proofs.at_hash.Tie as tie

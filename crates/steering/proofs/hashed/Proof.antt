@@ -1,7 +1,6 @@
 -- `steering::hashed` meets its contract: neither refusal of the hash call is met, so the hash is the published one.
 -- Assumes nothing.
-use mathlib.Core.Path.{_≡_, _∙_}
-use borrow.Author.Needs.{needs}
+use Rattle.octets.specs.Prelude.{_≡_, _∙_, needs}
 use Rattle.toeplitz.specs.Hash.{publishedHash}
 use Rattle.toeplitz.proofs.Theorems.{hash-or-published}
 use Rattle.steering.proofs.hashed.Statement.{statement}

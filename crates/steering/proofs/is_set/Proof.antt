@@ -1,7 +1,6 @@
 -- `steering::is_set` meets its contract: the flag is the bit that the shift leaves lowest.
 -- Assumes nothing.
-use mathlib.Core.Path.{refl}
-use borrow.Author.Needs.{needs}
+use Rattle.octets.specs.Prelude.{refl, needs}
 use Rattle.steering.specs.Steering.{isSet}
 use Rattle.steering.proofs.is_set.Statement.{statement}
 use Rattle.steering.proofs.is_set.Tie as tie

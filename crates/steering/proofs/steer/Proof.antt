@@ -1,8 +1,6 @@
 -- `steering::steer` meets its contract: the places found are those of the packet's own type, and stand inside the packet.
 -- Assumes nothing.
-use mathlib.Core.Path.{ap, _∙_}
-use native.Mathlib.Omega.{arith}
-use borrow.Author.Needs.{needs}
+use Rattle.octets.specs.Prelude.{ap, _∙_, arith, needs}
 use Rattle.steering.specs.Steering.{choiceOf}
 use Rattle.steering.proofs.Choices.{steered-not-ip, Places, places, part-length, steered-part}
 use Rattle.steering.proofs.steer.Statement.{statement}

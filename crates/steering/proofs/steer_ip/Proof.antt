@@ -1,10 +1,6 @@
 -- `steering::steer_ip` meets its contract: the tests on the flags pick the type.
 -- Assumes nothing.
-use mathlib.Core.Path.{_≡_, sym, ap, _∙_}
-use Prim.Native.Nat.{_-_, _≤_}
-use native.Mathlib.Omega.{arith}
-use lib.ListN.{length, length-take}
-use borrow.Author.Needs.{needs}
+use Rattle.octets.specs.Prelude.{_≡_, sym, ap, _∙_, _-_, _≤_, arith, length, length-take, needs}
 use Rattle.toeplitz.specs.Hash.{maxInput}
 use Rattle.steering.specs.Steering.{choiceOf}
 use Rattle.steering.specs.Inner.{plainSize}

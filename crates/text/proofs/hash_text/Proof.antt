@@ -1,13 +1,7 @@
 -- `text::hash_text` meets its contract: where fewer than 40 octets were read, all are the key and none the input.
 -- Assumes nothing.
-use mathlib.Core.Path.{_≡_, sym, ap, ap₂, _∙_}
-use mathlib.Core.List.{List}
-use Prim.Native.Nat.{ℕ, _-_, min}
-use native.Mathlib.Decide.{decLt}
-use native.Mathlib.Omega.{arith}
-use borrow.Author.Needs.{needs}
-use lib.ListN.{length, take, drop, length-drop, drop-of-length-le}
-use lib.Seq.{length-take-le, take-all}
+use Rattle.octets.specs.Prelude.{_≡_, sym, ap, ap₂, _∙_, List, ℕ, _-_, min, decLt, arith, needs, length, take, drop, length-drop}
+use Rattle.octets.specs.Prelude.{drop-of-length-le, length-take-le, take-all}
 use Rattle.toeplitz.specs.Hash.{keyLength, hashOutcome}
 use Rattle.text.proofs.hash_text.Statement.{statement}
 use Rattle.text.proofs.hash_text.Tie as tie

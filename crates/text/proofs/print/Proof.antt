@@ -1,8 +1,6 @@
 -- `text::print` meets its contract: what is written is a part of the array.
 -- Assumes nothing.
-use mathlib.Core.Path.{sym}
-use borrow.Author.Needs.{needs}
-use lib.Seq.{length-take-le}
+use Rattle.octets.specs.Prelude.{sym, needs, length-take-le}
 use Rattle.text.proofs.print.Statement.{statement}
 use Rattle.text.proofs.print.Tie as tie
 

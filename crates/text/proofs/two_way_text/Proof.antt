@@ -1,9 +1,6 @@
 -- `text::two_way_text` meets its contract: a refusal, or four growths from an empty text, each with the answer of its type.
 -- Assumes nothing.
-use mathlib.Core.List.{List}
-use Prim.Native.Nat.{ℕ}
-use borrow.Author.Needs.{needs}
-use borrow.Author.Tests.{eq-eqb, ne-eqb}
+use Rattle.octets.specs.Prelude.{List, ℕ, needs, eq-eqb, ne-eqb}
 use Rattle.text.specs.Text.{Prints}
 use Rattle.text.specs.Lines.{typeLines}
 use Rattle.text.proofs.Growth.{adds-then, prints}

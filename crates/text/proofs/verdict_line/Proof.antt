@@ -1,6 +1,6 @@
 -- `text::verdict_line` meets its contract: the line behind an empty text.
 -- Assumes nothing.
-use borrow.Author.Needs.{needs}
+use Rattle.octets.specs.Prelude.{needs}
 use Rattle.text.proofs.Growth.{prints}
 use Rattle.text.proofs.verdict_line.Statement.{statement}
 use Rattle.text.proofs.verdict_line.Tie as tie

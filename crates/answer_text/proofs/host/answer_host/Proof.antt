@@ -1,6 +1,6 @@
 -- `answer_text::host::answer_host` meets its contract: each case leaves a good interface, one of other counts too.
 -- Assumes nothing.
-use borrow.Author.Needs.{needs}
+use Rattle.octets.specs.Prelude.{needs}
 use Rattle.answer_text.proofs.host.answer_host.Statement.{statement}
 use Rattle.answer_text.proofs.host.answer_host.Tie as tie
 

@@ -1,8 +1,6 @@
 -- `answer_text::host::set_up_first` meets its contract: setup with one queue is not refused, and gives a good interface.
 -- Assumes nothing.
-use mathlib.Core.Path.{sym, subst}
-use native.Mathlib.Omega.{arith}
-use borrow.Author.Needs.{needs}
+use Rattle.octets.specs.Prelude.{sym, subst, arith, needs}
 use Rattle.interface.specs.States.{HostState, Good, setUpOutcome}
 use Rattle.backend.proofs.Goodness.{good-interface}
 use Rattle.answer_text.proofs.host.set_up_first.Statement.{statement}

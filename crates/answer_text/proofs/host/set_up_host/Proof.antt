@@ -1,11 +1,6 @@
 -- `answer_text::host::set_up_host` meets its contract: setup gives a good interface, or leaves the one that there is.
 -- Assumes nothing.
-use mathlib.Core.Path.{_≡_}
-use mathlib.Core.Bool.{_&&_}
-use Prim.Native.Nat.{ℕ}
-use lib.Dec.{leb}
-use borrow.Author.Needs.{needs}
-use borrow.Author.Tests.{leb-true}
+use Rattle.octets.specs.Prelude.{_≡_, _&&_, ℕ, leb, needs, leb-true}
 use Rattle.octets.specs.Outcome.{Outcome, placed, itself}
 use Rattle.octets.proofs.Truth.{both-true, by-test}
 use Rattle.messages.specs.Settings.{maxQueues}

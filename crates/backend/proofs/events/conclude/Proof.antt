@@ -1,8 +1,7 @@
 -- `backend::events::conclude` meets its contract: its test is that of `afterRead`, and what it calls does what the definitions
 -- say.
 -- Assumes nothing.
-use mathlib.Core.Path.{_≡_, sym, subst, _∙_}
-use borrow.Author.Needs.{needs}
+use Rattle.octets.specs.Prelude.{_≡_, sym, subst, _∙_, needs}
 use Rattle.interface.specs.States.{HostState, Good, interfaceIn}
 use Rattle.interface.specs.Events.{carriedOver}
 use Rattle.backend.proofs.Steps.{concludes-whole, concludes-part}

@@ -1,11 +1,6 @@
 -- `backend::events::event` meets its contract: its tests are those of `eventOf`, in their order.
 -- Assumes nothing.
-use mathlib.Core.Path.{_≡_, _∙_}
-use mathlib.Core.List.{List}
-use Prim.Native.Nat.{ℕ, _≤_, _<_}
-use native.Mathlib.Omega.{arith}
-use lib.ListN.{length}
-use borrow.Author.Needs.{needs}
+use Rattle.octets.specs.Prelude.{_≡_, _∙_, List, ℕ, _≤_, _<_, arith, length, needs}
 use Rattle.page.specs.Page.{pageSize, areaSize}
 use Rattle.interface.specs.States.{HostState, interfaceIn}
 use Rattle.interface.specs.Events.{unread, unreadAcks}

@@ -1,11 +1,7 @@
 -- `backend::events::proceed` meets its contract: its test is that of `proceeded`, and what it calls does what the definitions say
 -- of each stage.
 -- Assumes nothing.
-use mathlib.Core.Path.{_≡_, sym, ap, subst, _∙_}
-use mathlib.Core.List.{List}
-use Prim.Native.Nat.{ℕ, _^_, _<_}
-use borrow.Author.Needs.{needs}
-use borrow.Author.Tests.{lt-ltb, le-ltb}
+use Rattle.octets.specs.Prelude.{_≡_, sym, ap, subst, _∙_, List, ℕ, _^_, _<_, needs, lt-ltb, le-ltb}
 use Rattle.messages.specs.Settings.{Good as GoodSettings}
 use Rattle.interface.specs.States.{HostState, Good, interfaceIn}
 use Rattle.interface.specs.Events.{readIn, carriedOver}

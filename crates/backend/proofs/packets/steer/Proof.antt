@@ -1,11 +1,7 @@
 -- `backend::packets::steer` meets its contract: the table is the listed number of entries, and can be asked.
 -- Assumes nothing.
-use mathlib.Core.Path.{_≡_, sym, ap, subst, _∙_}
-use Prim.Native.Nat.{ℕ}
+use Rattle.octets.specs.Prelude.{_≡_, sym, ap, subst, _∙_, ℕ, arith, length, take, needs}
 use native.Mathlib.Nat.{sub-zero}
-use native.Mathlib.Omega.{arith}
-use lib.ListN.{length, take}
-use borrow.Author.Needs.{needs}
 use Rattle.toeplitz.specs.Hash.{keyLength}
 use Rattle.messages.specs.Settings.{maxEntries}
 use Rattle.messages.proofs.Powers.{listed-parts}

@@ -1,8 +1,6 @@
 -- `by_number::hash` meets its contract: each case of the answer is told by its number and value.
 -- Assumes nothing.
-use mathlib.Core.Path.{_≡_, sym, ap, _∙_}
-use Prim.Native.Nat.{ℕ}
-use borrow.Author.Needs.{needs}
+use Rattle.octets.specs.Prelude.{_≡_, sym, ap, _∙_, ℕ, needs}
 use Rattle.octets.specs.Outcome.{Outcome, numberOf, placed, itself}
 use Rattle.toeplitz.specs.Hash.{hashOutcome, hashOutcomeOf}
 use Rattle.toeplitz.specs.declared.HashAnswer.{HashAnswer}

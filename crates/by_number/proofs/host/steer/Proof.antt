@@ -1,8 +1,6 @@
 -- `by_number::host::steer_on_parts` meets its contract: each case of the answer is told by its number and values.
 -- Assumes nothing.
-use mathlib.Core.Path.{_≡_, refl, sym, ap, _∙_}
-use native.Mathlib.Omega.{arith}
-use borrow.Author.Needs.{needs}
+use Rattle.octets.specs.Prelude.{_≡_, refl, sym, ap, _∙_, arith, needs}
 use Rattle.messages.proofs.Powers.{listed-parts}
 use Rattle.steering.specs.Steering.{Choice, choiceOf, queueIn}
 use Rattle.steering.specs.declared.Steered.{Steered}

@@ -1,8 +1,6 @@
 -- `by_number::read_ack` meets its contract: each case of the answer is told by its number and values.
 -- Assumes nothing.
-use mathlib.Core.Path.{_≡_, sym, ap, _∙_}
-use Prim.Native.Nat.{ℕ}
-use borrow.Author.Needs.{needs}
+use Rattle.octets.specs.Prelude.{_≡_, sym, ap, _∙_, ℕ, needs}
 use Rattle.octets.specs.Outcome.{Outcome, numberOf, placed}
 use Rattle.guest_messages.specs.Reader.{Reading, readAck, ackOutcomeOf}
 use Rattle.guest_messages.specs.declared.AckAnswer.{AckAnswer}

@@ -1,9 +1,7 @@
 -- `capture::headers::header` meets its contract: length, magic number and version, then the link type.
 -- Assumes nothing.
-use mathlib.Core.Path.{sym, _∙_}
-use borrow.Author.Tests.{not-true, not-false}
+use Rattle.octets.specs.Prelude.{sym, _∙_, not-true, not-false, needs}
 use Rattle.capture.proofs.Heads.{header-short, header-other, header-link}
-use borrow.Author.Needs.{needs}
 use Rattle.capture.proofs.headers.header.Statement.{statement}
 use Rattle.capture.proofs.headers.header.Tie as tie
 

@@ -1,9 +1,7 @@
 -- `capture::headers::is_classic` meets its contract: each return has passed the tests before it.
 -- Assumes nothing.
-use mathlib.Core.Path.{refl}
-use borrow.Author.Tests.{ne-eqb}
+use Rattle.octets.specs.Prelude.{refl, ne-eqb, needs}
 use Rattle.capture.specs.Header.{isClassic}
-use borrow.Author.Needs.{needs}
 use Rattle.capture.proofs.headers.is_classic.Statement.{statement}
 use Rattle.capture.proofs.headers.is_classic.Tie as tie
 

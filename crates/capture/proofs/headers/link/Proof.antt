@@ -1,7 +1,6 @@
 -- `capture::headers::link` meets its contract: the two link types, and no other.
 -- Assumes nothing.
-use mathlib.Core.Path.{refl}
-use borrow.Author.Tests.{ne-eqb}
+use Rattle.octets.specs.Prelude.{refl, ne-eqb}
 use Rattle.capture.specs.Header.{linkOutcome}
 use Rattle.capture.proofs.headers.link.Statement.{statement}
 use Rattle.capture.proofs.headers.link.Tie as tie

@@ -1,9 +1,7 @@
 -- `capture::headers::order` meets its contract: the first four octets are read highest first.
 -- Assumes nothing.
-use mathlib.Core.Path.{refl}
-use borrow.Author.Tests.{ne-eqb}
+use Rattle.octets.specs.Prelude.{refl, ne-eqb, needs}
 use Rattle.capture.specs.Header.{orderOf}
-use borrow.Author.Needs.{needs}
 use Rattle.capture.proofs.headers.order.Statement.{statement}
 use Rattle.capture.proofs.headers.order.Tie as tie
 

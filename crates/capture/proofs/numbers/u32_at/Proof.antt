@@ -1,8 +1,7 @@
 -- `capture::numbers::u32_at` meets its contract: the octets are joined in the order asked.
 -- Assumes nothing.
-use mathlib.Core.Path.{_∙_}
+use Rattle.octets.specs.Prelude.{_∙_, needs}
 use Rattle.capture.proofs.Orders.{high-four}
-use borrow.Author.Needs.{needs}
 use Rattle.capture.proofs.numbers.u32_at.Statement.{statement}
 use Rattle.capture.proofs.numbers.u32_at.Tie as tie
 

@@ -1,10 +1,8 @@
 -- `capture::packets::holds_ip` meets its contract: the type is looked at only where the frame is long enough.
 -- Assumes nothing.
-use mathlib.Core.Path.{_≡_, refl}
-use borrow.Author.Tests.{lt-leb, le-leb, ne-eqb}
+use Rattle.octets.specs.Prelude.{_≡_, refl, lt-leb, le-leb, ne-eqb, needs}
 use Rattle.capture.specs.Header.{bigEndianAt}
 use Rattle.capture.specs.Packets.{holdsIp}
-use borrow.Author.Needs.{needs}
 use Rattle.capture.proofs.packets.holds_ip.Statement.{statement}
 use Rattle.capture.proofs.packets.holds_ip.Tie as tie
 

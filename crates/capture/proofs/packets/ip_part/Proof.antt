@@ -1,13 +1,8 @@
 -- `capture::packets::ip_part` meets its contract: the part behind the header is there where the type was looked at.
 -- Assumes nothing.
-use mathlib.Core.Path.{refl, sym, _∙_}
-use native.Mathlib.Omega.{arith}
-use Prim.Native.Nat.{_-_}
-use lib.ListN.{length, drop, length-drop}
-use lib.Seq.{take-all}
+use Rattle.octets.specs.Prelude.{refl, sym, _∙_, arith, _-_, length, drop, length-drop, take-all, needs}
 use Rattle.capture.specs.Packets.{ipPart}
 use Rattle.capture.proofs.Frames.{frame-long, frame-part, frame-none}
-use borrow.Author.Needs.{needs}
 use Rattle.capture.proofs.packets.ip_part.Statement.{statement}
 use Rattle.capture.proofs.packets.ip_part.Tie as tie
 

@@ -1,8 +1,7 @@
 -- `capture::records::step_at` meets its contract: nothing left, too little for a header, then the captured length.
 -- Assumes nothing.
-use native.Mathlib.Omega.{arith}
+use Rattle.octets.specs.Prelude.{arith, needs}
 use Rattle.capture.proofs.Steps.{step-ended, step-short, step-record, step-long, step-cut}
-use borrow.Author.Needs.{needs}
 use Rattle.capture.proofs.records.step_at.Statement.{statement}
 use Rattle.capture.proofs.records.step_at.Tie as tie
 

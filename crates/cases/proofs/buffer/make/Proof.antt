@@ -1,9 +1,6 @@
 -- `cases::buffer::make` ends and writes no octet outside; x stays below 2 ^ 32.
 -- Assumes nothing.
-use mathlib.Core.Path.{_≡_}
-use Prim.Native.Nat.{_-_, _^_, _≤_, _<_}
-use lib.ListN.{length}
-use borrow.Author.Needs.{needs}
+use Rattle.octets.specs.Prelude.{_≡_, _-_, _^_, _≤_, _<_, length, needs}
 use Rattle.cases.proofs.buffer.make.Statement.{statement}
 use Rattle.cases.proofs.buffer.make.Tie as tie
 

@@ -1,9 +1,6 @@
 -- `cases::entries::entries_in` ends and reads no octet outside: the place read stays at or below the last.
 -- Assumes nothing.
-use mathlib.Core.Path.{_≡_}
-use Prim.Native.Nat.{_-_, _≤_}
-use lib.ListN.{length}
-use borrow.Author.Needs.{needs}
+use Rattle.octets.specs.Prelude.{_≡_, _-_, _≤_, length, needs}
 use Rattle.cases.proofs.entries.entries_in.Statement.{statement}
 use Rattle.cases.proofs.entries.entries_in.Tie as tie
 

@@ -1,8 +1,6 @@
 -- `cases::print::digest` ends and reads no octet outside; the sum stays below 2 ^ 32.
 -- Assumes nothing.
-use Prim.Native.Nat.{_-_, _^_, _≤_, _<_}
-use lib.ListN.{length}
-use borrow.Author.Needs.{needs}
+use Rattle.octets.specs.Prelude.{_-_, _^_, _≤_, _<_, length, needs}
 use Rattle.cases.proofs.print.digest.Statement.{statement}
 use Rattle.cases.proofs.print.digest.Tie as tie
 

@@ -1,9 +1,6 @@
 -- `event_vectors::guest::send` ends and reads and writes no octet outside.
 -- Assumes nothing.
-use mathlib.Core.Path.{_≡_}
-use Prim.Native.Nat.{_-_, _≤_}
-use lib.ListN.{length}
-use borrow.Author.Needs.{needs}
+use Rattle.octets.specs.Prelude.{_≡_, _-_, _≤_, length, needs}
 use Rattle.event_vectors.proofs.guest.send.Statement.{statement}
 use Rattle.event_vectors.proofs.guest.send.Tie as tie
 

@@ -1,11 +1,7 @@
 -- `frontend::collecting::collect` meets its contract: what it leaves in each case of what is seen of the ack is what the
 -- definition says.
 -- Assumes nothing.
-use mathlib.Core.Path.{_≡_, refl, ap, _∙_}
-use mathlib.Core.List.{List}
-use Prim.Native.Nat.{ℕ, _+_}
-use lib.ListN.{getD}
-use borrow.Author.Needs.{needs}
+use Rattle.octets.specs.Prelude.{_≡_, refl, ap, _∙_, List, ℕ, _+_, getD, needs}
 use Rattle.messages.specs.Wire.{typeIn}
 use Rattle.page.specs.Page.{responsesAt}
 use Rattle.ring.specs.Reading.{Incoming, incomingOf, receivedFrom}

@@ -1,12 +1,7 @@
 -- `frontend::collecting::event` meets its contract: its tests are those of `eventOf`, in their order, and what it calls does what
 -- the definitions say of each case.
 -- Assumes nothing.
-use mathlib.Core.Path.{_≡_, refl, sym, ap, _∙_}
-use mathlib.Core.List.{List}
-use Prim.Native.Nat.{ℕ}
-use native.Mathlib.Omega.{arith}
-use borrow.Author.Needs.{needs}
-use borrow.Author.Tests.{lt-ltb, le-ltb}
+use Rattle.octets.specs.Prelude.{_≡_, refl, sym, ap, _∙_, List, ℕ, arith, needs, lt-ltb, le-ltb}
 use Rattle.octets.specs.Outcome.{value}
 use Rattle.guest_steps.specs.Guest.{GuestState, Good, guestIn}
 use Rattle.guest_steps.specs.Calls.{Found, found, eventOf, left}

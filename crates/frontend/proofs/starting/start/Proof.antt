@@ -1,11 +1,6 @@
 -- `frontend::starting::start` meets its contract: a start is stopped, its request is refused, or it begins.
 -- Assumes nothing.
-use mathlib.Core.Path.{_≡_, refl, sym, ap, _∙_}
-use mathlib.Core.List.{List}
-use Prim.Native.Nat.{ℕ, _≤_}
-use native.Mathlib.Omega.{arith}
-use lib.ListN.{length, length-append, length-drop}
-use borrow.Author.Needs.{needs}
+use Rattle.octets.specs.Prelude.{_≡_, refl, sym, ap, _∙_, List, ℕ, _≤_, arith, length, length-append, length-drop, needs}
 use Rattle.octets.specs.Outcome.{Outcome, value, refused}
 use Rattle.guest_messages.specs.Refusals.{bufferTooShort}
 use Rattle.guest_messages.specs.declared.Written.{Written}

@@ -1,7 +1,6 @@
 -- `frontend::reader::carries_flags` meets its contract: only a get flags has flags in its ack.
 -- Assumes nothing.
-use mathlib.Core.Path.{sym}
-use borrow.Author.Needs.{needs}
+use Rattle.octets.specs.Prelude.{sym, needs}
 use Rattle.guest_messages.proofs.Accepts.{get-flags-carries, other-carries-none}
 use Rattle.guest_messages.proofs.reader.carries_flags.Statement.{statement}
 use Rattle.guest_messages.proofs.reader.carries_flags.Tie as tie

@@ -1,9 +1,6 @@
 -- `frontend::reader::is_allowed` meets its contract: the types 2 to 5 are the requests.
 -- Assumes nothing.
-use mathlib.Core.Path.{sym}
-use Prim.Native.Nat.{_<_}
-use native.Mathlib.Omega.{arith}
-use borrow.Author.Needs.{needs}
+use Rattle.octets.specs.Prelude.{sym, _<_, arith, needs}
 use Rattle.messages.specs.Wire.{setMappingType}
 use Rattle.guest_messages.proofs.Accepts.{request-allowed, below-allowed, above-allowed}
 use Rattle.guest_messages.proofs.reader.is_allowed.Statement.{statement}

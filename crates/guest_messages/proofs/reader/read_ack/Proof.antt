@@ -1,10 +1,6 @@
 -- `frontend::reader::read_ack` meets its contract: each test on the way to a return is one of what an ack asks for.
 -- Assumes nothing.
-use mathlib.Core.Path.{sym, ap, _∙_}
-use Prim.Native.Nat.{ℕ, _≤_, _<_}
-use native.Mathlib.Omega.{arith}
-use borrow.Author.Needs.{needs}
-use borrow.Author.Tests.{not-true, not-false}
+use Rattle.octets.specs.Prelude.{sym, ap, _∙_, ℕ, _≤_, _<_, arith, needs, not-true, not-false}
 use Rattle.octets.specs.Outcome.{value}
 use Rattle.messages.specs.Wire.{success, bufferOverflow, allFlags}
 use Rattle.guest_messages.specs.Reader.{status, statusAndFlags}

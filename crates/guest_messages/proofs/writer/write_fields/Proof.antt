@@ -1,10 +1,6 @@
 -- `frontend::writer::write_fields` meets its contract: the fields so far, and the octets behind them as they were.
 -- Assumes nothing.
-use mathlib.Core.Path.{_≡_, refl, _∙_}
-use mathlib.Core.List.{_++_}
-use Prim.Native.Nat.{_*_, _-_, _≤_}
-use lib.ListN.{length, take, drop}
-use borrow.Author.Needs.{needs}
+use Rattle.octets.specs.Prelude.{_≡_, refl, _∙_, _++_, _*_, _-_, _≤_, length, take, drop, needs}
 use Rattle.messages.specs.Wire.{fieldSize}
 use Rattle.guest_messages.specs.Writer.{fieldsOf}
 use Rattle.guest_messages.proofs.Buffers.{fields-next, fields-all}

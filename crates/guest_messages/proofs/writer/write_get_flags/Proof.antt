@@ -1,10 +1,6 @@
 -- `frontend::writer::write_get_flags` meets its contract: the test picks the case, and the header is all of the message.
 -- Assumes nothing.
-use mathlib.Core.Path.{refl}
-use Prim.Native.Nat.{_<_}
-use native.Mathlib.Omega.{arith}
-use lib.ListN.{length}
-use borrow.Author.Needs.{needs}
+use Rattle.octets.specs.Prelude.{refl, _<_, arith, length, needs}
 use Rattle.messages.specs.Wire.{headerSize}
 use Rattle.guest_messages.proofs.Buffers.{message-short, header-written}
 use Rattle.guest_messages.proofs.writer.write_get_flags.Statement.{statement}

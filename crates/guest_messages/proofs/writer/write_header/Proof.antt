@@ -1,9 +1,6 @@
 -- `frontend::writer::write_header` meets its contract: the two stores are those of a header.
 -- Assumes nothing.
-use mathlib.Core.Path.{_∙_}
-use Prim.Native.Nat.{_≤_}
-use lib.ListN.{length}
-use borrow.Author.Needs.{needs}
+use Rattle.octets.specs.Prelude.{_∙_, _≤_, length, needs}
 use Rattle.messages.specs.Wire.{headerSize}
 use Rattle.guest_messages.proofs.Buffers.{header-put}
 use Rattle.guest_messages.proofs.writer.write_header.Statement.{statement}

@@ -1,10 +1,6 @@
 -- `frontend::writer::write_set_flags` meets its contract: the tests pick the case, and the two parts are the message's.
 -- Assumes nothing.
-use mathlib.Core.Path.{sym}
-use Prim.Native.Nat.{_<_}
-use native.Mathlib.Omega.{arith}
-use borrow.Author.Needs.{needs}
-use borrow.Author.Tests.{le-leb, lt-leb}
+use Rattle.octets.specs.Prelude.{sym, _<_, arith, needs, le-leb, lt-leb}
 use Rattle.octets.proofs.Numbers.{length-octets}
 use Rattle.messages.specs.Wire.{allFlags}
 use Rattle.guest_messages.specs.Writer.{written}

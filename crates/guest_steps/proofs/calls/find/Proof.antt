@@ -1,10 +1,6 @@
 -- `guest_steps::calls::find` meets its contract: its tests are those of `found`, in their order.
 -- Assumes nothing.
-use mathlib.Core.Path.{_≡_}
-use Prim.Native.Nat.{_≤_, _<_}
-use native.Mathlib.Omega.{arith}
-use lib.ListN.{length}
-use borrow.Author.Needs.{needs}
+use Rattle.octets.specs.Prelude.{_≡_, _≤_, _<_, arith, length, needs}
 use Rattle.page.specs.Page.{pageSize, areaSize}
 use Rattle.guest_steps.specs.Guest.{guestIn}
 use Rattle.guest_steps.proofs.Finds.{found-page, found-requests, found-responses, found-failed, found-counts}

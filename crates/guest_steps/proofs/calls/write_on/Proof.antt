@@ -1,13 +1,7 @@
 -- `guest_steps::calls::write_on` meets its contract: the octets of the request that fit are sent and counted at their places, and
 -- the counts are written behind them.
 -- Assumes nothing.
-use mathlib.Core.Path.{_≡_, refl, ap, _∙_}
-use mathlib.Core.List.{List}
-use Prim.Native.Nat.{ℕ, _+_}
-use native.Mathlib.Omega.{arith}
-use lib.ListN.{length, getD, length-set}
-use lib.Dec.{ltb}
-use borrow.Author.Needs.{needs}
+use Rattle.octets.specs.Prelude.{_≡_, refl, ap, _∙_, List, ℕ, _+_, arith, length, getD, length-set, ltb, needs}
 use Rattle.page.specs.Page.{countedByGuest}
 use Rattle.guest_steps.specs.Inner.{writtenAnswer}
 use Rattle.guest_steps.proofs.Finds.{told-written, stored-writes}

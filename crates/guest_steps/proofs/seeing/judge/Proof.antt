@@ -1,13 +1,9 @@
 -- `guest_steps::seeing::judge` meets its contract: what the reader is handed is the header with the octets of the payload
 -- behind it.
 -- Assumes nothing.
-use mathlib.Core.Path.{_≡_, refl, sym, ap, ap₂, _∙_}
-use mathlib.Core.List.{List, _++_}
-use Prim.Native.Nat.{ℕ, _+_, _-_, _≤_}
-use native.Mathlib.Omega.{arith}
-use lib.ListN.{length, take, replicate, length-append}
+use Rattle.octets.specs.Prelude.{_≡_, refl, sym, ap, ap₂, _∙_, List, _++_, ℕ, _+_, _-_, _≤_, arith, length, take, replicate}
+use Rattle.octets.specs.Prelude.{length-append, needs}
 use borrow.Rule.Slice.PartMut.{putMid}
-use borrow.Author.Needs.{needs}
 use Rattle.messages.specs.Wire.{headerSize}
 use Rattle.guest_steps.specs.Guest.{maxAckPayload}
 use Rattle.guest_messages.specs.Reader.{readAck, ackOutcomeOf}

@@ -1,12 +1,6 @@
 -- `guest_steps::seeing::look` meets its contract: each test on the way to a return is one of what is seen of an ack.
 -- Assumes nothing.
-use mathlib.Core.Path.{_≡_, sym, _∙_}
-use mathlib.Core.Bool.{false}
-use mathlib.Core.Logic.{⊎-elim}
-use Prim.Native.Nat.{_≤_}
-use native.Mathlib.Omega.{arith}
-use borrow.Author.Needs.{needs}
-use borrow.Author.Tests.{not-true, not-false}
+use Rattle.octets.specs.Prelude.{_≡_, sym, _∙_, false, ⊎-elim, _≤_, arith, needs, not-true, not-false}
 use Rattle.messages.specs.Wire.{headerSize, sizeIn}
 use Rattle.ring.specs.Reading.{Message}
 use Rattle.guest_steps.specs.Calls.{sizeWrong}

@@ -1,6 +1,6 @@
 -- `guest_vectors::guest::answer` meets its contract: each case leaves a good guest, one of other counts too.
 -- Assumes nothing.
-use borrow.Author.Needs.{needs}
+use Rattle.octets.specs.Prelude.{needs}
 use Rattle.guest_vectors.proofs.guest.answer.Statement.{statement}
 use Rattle.guest_vectors.proofs.guest.answer.Tie as tie
 

@@ -1,11 +1,6 @@
 -- `guest_vectors::guest::recount` meets its contract: both counts fit 32 bits, and a good guest asks no more of them.
 -- Assumes nothing.
-use mathlib.Core.Path.{_≡_}
-use mathlib.Core.List.{List}
-use Prim.Native.Nat.{ℕ, _^_, _<_}
-use native.Mathlib.Omega.{arith}
-use lib.ListN.{length, set}
-use borrow.Author.Needs.{needs}
+use Rattle.octets.specs.Prelude.{_≡_, List, ℕ, _^_, _<_, arith, length, set, needs}
 use Rattle.octets.proofs.Lengths.{by-length}
 use Rattle.guest_steps.specs.Guest.{Good, guestIn}
 use Rattle.guest_vectors.proofs.guest.recount.Statement.{statement}

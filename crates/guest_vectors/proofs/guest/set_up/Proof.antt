@@ -1,7 +1,6 @@
 -- `guest_vectors::guest::set_up` meets its contract: a guest at setup is good.
 -- Assumes nothing.
-use mathlib.Core.Path.{sym, subst}
-use borrow.Author.Needs.{needs}
+use Rattle.octets.specs.Prelude.{sym, subst, needs}
 use Rattle.guest_steps.specs.Guest.{GuestState, Good}
 use Rattle.frontend.proofs.Goodness.{good-at-setup}
 use Rattle.guest_vectors.proofs.guest.set_up.Statement.{statement}

@@ -1,11 +1,7 @@
 -- `interface::stages::carry_over` meets its contract: type and size stand in the header, the request is carried out by them, and
 -- what it leaves is stored at its places.
 -- Assumes nothing.
-use mathlib.Core.Path.{_≡_, ap₂, _∙_}
-use Prim.Native.Nat.{ℕ}
-use native.Mathlib.Omega.{arith}
-use lib.ListN.{length, length-set}
-use borrow.Author.Needs.{needs}
+use Rattle.octets.specs.Prelude.{_≡_, ap₂, _∙_, ℕ, arith, length, length-set, needs}
 use Rattle.messages.specs.Requests.{carriedOut}
 use Rattle.messages.proofs.Powers.{listed-parts}
 use Rattle.interface.specs.States.{settingsIn, interfaceIn}

@@ -1,12 +1,7 @@
 -- `interface::stages::read_request` meets its contract: the octets read are counted at their places, and where no octet stands
 -- unread, reading would change nothing.
 -- Assumes nothing.
-use mathlib.Core.Path.{_≡_, ap, _∙_}
-use mathlib.Core.List.{List}
-use Prim.Native.Nat.{ℕ, _-_, _^_, _<_}
-use native.Mathlib.Omega.{arith}
-use lib.ListN.{length, length-set}
-use borrow.Author.Needs.{needs}
+use Rattle.octets.specs.Prelude.{_≡_, ap, _∙_, List, ℕ, _-_, _^_, _<_, arith, length, length-set, needs}
 use Rattle.page.specs.Page.{requestsAt, advanced, offsets, octetsIn}
 use Rattle.ring.specs.Reading.{Incoming, received, receivedFrom}
 use Rattle.interface.specs.States.{incomingIn, interfaceIn}

@@ -1,15 +1,8 @@
 -- `interface::stages::respond` meets its contract: the ack octets that fit are sent and counted at their places, and the counts
 -- are written behind them.
 -- Assumes nothing.
-use mathlib.Core.Path.{_≡_, refl, ap, _∙_}
-use mathlib.Core.List.{List}
-use mathlib.Core.Bool.{cond}
-use Prim.Native.Nat.{ℕ, _+_}
-use native.Mathlib.Omega.{arith}
-use lib.ListN.{length, getD, set, length-set}
-use lib.Dec.{ltb}
-use borrow.Author.Needs.{needs}
-use borrow.Author.Tests.{lt-ltb, le-ltb}
+use Rattle.octets.specs.Prelude.{_≡_, refl, ap, _∙_, List, cond, ℕ, _+_, arith, length, getD, set, length-set, ltb, needs, lt-ltb}
+use Rattle.octets.specs.Prelude.{le-ltb}
 use Rattle.page.specs.Page.{counted as writtenCounts}
 use Rattle.interface.specs.Events.{ackWritten, ackOwed, answerNumber}
 use Rattle.interface.specs.Inner.{Responds}

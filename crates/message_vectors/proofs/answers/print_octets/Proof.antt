@@ -1,8 +1,6 @@
 -- `message_vectors::answers::print_octets` ends and reads no octet outside.
 -- Assumes nothing.
-use Prim.Native.Nat.{_-_, _≤_}
-use lib.ListN.{length}
-use borrow.Author.Needs.{needs}
+use Rattle.octets.specs.Prelude.{_-_, _≤_, length, needs}
 use Rattle.message_vectors.proofs.answers.print_octets.Statement.{statement}
 use Rattle.message_vectors.proofs.answers.print_octets.Tie as tie
 

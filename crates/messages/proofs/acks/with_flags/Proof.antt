@@ -1,6 +1,6 @@
 -- `messages::acks::with_flags` meets its contract: the octets stored are those of the message.
 -- Assumes nothing.
-use borrow.Author.Needs.{needs}
+use Rattle.octets.specs.Prelude.{needs}
 use Rattle.messages.proofs.AckOctets.{flags-stored}
 use Rattle.messages.proofs.acks.with_flags.Statement.{statement}
 use Rattle.messages.proofs.acks.with_flags.Tie as tie

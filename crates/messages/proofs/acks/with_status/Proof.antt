@@ -1,6 +1,6 @@
 -- `messages::acks::with_status` meets its contract: the octets stored are those of the message.
 -- Assumes nothing.
-use borrow.Author.Needs.{needs}
+use Rattle.octets.specs.Prelude.{needs}
 use Rattle.messages.proofs.AckOctets.{status-stored}
 use Rattle.messages.proofs.acks.with_status.Statement.{statement}
 use Rattle.messages.proofs.acks.with_status.Tie as tie

@@ -1,7 +1,6 @@
 -- `messages::requests::answer` meets its contract: only a get flags that succeeded is acked with flags.
 -- Assumes nothing.
-use mathlib.Core.Logic.{⊎-elim}
-use borrow.Author.Needs.{needs}
+use Rattle.octets.specs.Prelude.{⊎-elim, needs}
 use Rattle.messages.specs.Requests.{requestOf}
 use Rattle.messages.proofs.Types.{no-flags}
 use Rattle.messages.proofs.requests.answer.Statement.{statement}

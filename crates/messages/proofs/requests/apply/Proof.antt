@@ -1,7 +1,6 @@
 -- `messages::requests::apply` meets its contract: the tests on the type tell the request.
 -- Assumes nothing.
-use borrow.Author.Needs.{needs}
-use borrow.Author.Tests.{ne-eqb}
+use Rattle.octets.specs.Prelude.{needs, ne-eqb}
 use Rattle.messages.specs.Settings.{settingsOf}
 use Rattle.messages.specs.Requests.{none, requestOf}
 use Rattle.messages.proofs.Statuses.{none-supported}

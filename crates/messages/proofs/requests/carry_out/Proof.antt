@@ -1,6 +1,6 @@
 -- `messages::requests::carry_out` meets its contract: the settings that are left, and the ack of the status.
 -- Assumes nothing.
-use borrow.Author.Needs.{needs}
+use Rattle.octets.specs.Prelude.{needs}
 use Rattle.messages.proofs.requests.carry_out.Statement.{statement}
 use Rattle.messages.proofs.requests.carry_out.Tie as tie
 

@@ -1,8 +1,6 @@
 -- `messages::requests::set_flags` meets its contract: the tests on the way to each return pick the row of the table.
 -- Assumes nothing.
-use Prim.Native.Nat.{_<_}
-use native.Mathlib.Omega.{arith}
-use borrow.Author.Needs.{needs}
+use Rattle.octets.specs.Prelude.{_<_, arith, needs}
 use Rattle.messages.specs.Wire.{allFlags}
 use Rattle.messages.specs.Settings.{settingsOf}
 use Rattle.messages.specs.Requests.{setFlags}

@@ -1,6 +1,6 @@
 -- `messages::requests::set_key` meets its contract: the test picks the row of the table, and the key is the copied part.
 -- Assumes nothing.
-use borrow.Author.Needs.{needs}
+use Rattle.octets.specs.Prelude.{needs}
 use Rattle.messages.specs.Settings.{settingsOf}
 use Rattle.messages.specs.Requests.{setKey}
 use Rattle.messages.proofs.Statuses.{set-key-size, set-key-done}

@@ -1,11 +1,6 @@
 -- `messages::requests::set_mapping` meets its contract: the tests on the way to each return pick the row of the table.
 -- Assumes nothing.
-use mathlib.Core.Path.{_≡_, sym, _∙_}
-use mathlib.Core.Bool.{true}
-use Prim.Native.Nat.{_/_, _%_, _<_}
-use native.Mathlib.Omega.{arith}
-use borrow.Author.Needs.{needs}
-use borrow.Author.Tests.{not-true, not-false}
+use Rattle.octets.specs.Prelude.{_≡_, sym, _∙_, true, _/_, _%_, _<_, arith, needs, not-true, not-false}
 use Rattle.messages.specs.Wire.{fieldSize}
 use Rattle.messages.specs.Settings.{maxEntries, isPowerOfTwo, settingsOf}
 use Rattle.messages.specs.Requests.{setMapping}

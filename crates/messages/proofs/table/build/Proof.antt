@@ -1,11 +1,6 @@
 -- `messages::table::build` meets its contract: the entries so far are below the queue count, and the array holds them.
 -- Assumes nothing.
-use mathlib.Core.Path.{_≡_, refl, sym}
-use mathlib.Core.Bool.{true, false≢true}
-use Prim.Native.Nat.{_≤_, _-_}
-use lib.ListN.{length}
-use native.Mathlib.Omega.{arith}
-use borrow.Author.Needs.{needs}
+use Rattle.octets.specs.Prelude.{_≡_, refl, sym, true, false≢true, _≤_, _-_, length, arith, needs}
 use Rattle.messages.specs.Settings.{maxEntries, mappingOf}
 use Rattle.messages.specs.Requests.{entriesIn, allBelow}
 use Rattle.messages.proofs.Tables.{below-next, not-below, stored-next, stored-all}

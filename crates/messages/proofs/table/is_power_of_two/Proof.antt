@@ -1,7 +1,6 @@
 -- `messages::table::is_power_of_two` meets its contract, by the law of n AND (n - 1).
 -- Assumes nothing.
-use mathlib.Core.Path.{refl}
-use borrow.Author.Needs.{needs}
+use Rattle.octets.specs.Prelude.{refl, needs}
 use Rattle.messages.specs.Settings.{isPowerBelow, isPowerOfTwo}
 use Rattle.messages.proofs.Powers.{power-told}
 use Rattle.messages.proofs.table.is_power_of_two.Statement.{statement}

@@ -1,7 +1,6 @@
 -- `on_parts::driver::guest_event_on_parts` meets its contract: the event is told by its number, and what its ack says.
 -- Assumes nothing.
-use mathlib.Core.Path.{ap, _∙_}
-use borrow.Author.Needs.{needs}
+use Rattle.octets.specs.Prelude.{ap, _∙_, needs}
 use Rattle.guest_steps.specs.Calls.{After}
 use Rattle.guest_steps.specs.declared.GuestAnswer.{GuestAnswer}
 use Rattle.octets.specs.Outcome.{done}

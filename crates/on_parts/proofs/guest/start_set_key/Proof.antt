@@ -1,6 +1,6 @@
 -- `on_parts::guest::start_set_key` meets its contract: the start is told by the number of its answer.
 -- Assumes nothing.
-use borrow.Author.Needs.{needs}
+use Rattle.octets.specs.Prelude.{needs}
 use Rattle.guest_steps.specs.declared.GuestAnswer.{GuestAnswer}
 use Rattle.by_number.proofs.Driving.{tells}
 use Rattle.on_parts.proofs.guest.start_set_key.Statement.{statement}

@@ -1,6 +1,6 @@
 -- `on_parts::host::event_on_parts` meets its contract: the event does, and its answer is told by its number.
 -- Assumes nothing.
-use borrow.Author.Needs.{needs}
+use Rattle.octets.specs.Prelude.{needs}
 use Rattle.by_number.proofs.Events.{numbered}
 use Rattle.on_parts.proofs.host.event.Statement.{statement}
 use Rattle.on_parts.proofs.host.event.Tie as tie

@@ -1,10 +1,6 @@
 -- `ring::areas::read_area` meets its contract: the buffer is filled from one part of the page, or from two.
 -- Assumes nothing.
-use mathlib.Core.Path.{refl}
-use Prim.Native.Nat.{ℕ, _+_, _-_, _%_}
-use native.Mathlib.Omega.{arith}
-use lib.ListN.{length}
-use borrow.Author.Needs.{needs}
+use Rattle.octets.specs.Prelude.{refl, ℕ, _+_, _-_, _%_, arith, length, needs}
 use Rattle.page.specs.Page.{areaSize}
 use Rattle.page.proofs.Places.{read-part, read-parts}
 use Rattle.page.proofs.areas.read_area.Statement.{statement}

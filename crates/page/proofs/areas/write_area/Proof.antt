@@ -1,10 +1,6 @@
 -- `ring::areas::write_area` meets its contract: one part of the page, or two, come back with the octets.
 -- Assumes nothing.
-use mathlib.Core.Path.{refl}
-use Prim.Native.Nat.{ℕ, _+_, _-_, _%_}
-use native.Mathlib.Omega.{arith}
-use lib.ListN.{length}
-use borrow.Author.Needs.{needs}
+use Rattle.octets.specs.Prelude.{refl, ℕ, _+_, _-_, _%_, arith, length, needs}
 use Rattle.page.specs.Page.{areaSize}
 use Rattle.page.proofs.Places.{put-part, put-parts}
 use Rattle.page.proofs.areas.write_area.Statement.{statement}

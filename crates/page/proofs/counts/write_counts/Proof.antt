@@ -1,7 +1,6 @@
 -- `ring::counts::write_counts` meets its contract: one count is written after the other.
 -- Assumes nothing.
-use mathlib.Core.Path.{refl}
-use borrow.Author.Needs.{needs}
+use Rattle.octets.specs.Prelude.{refl, needs}
 use Rattle.page.proofs.counts.write_counts.Statement.{statement}
 use Rattle.page.proofs.counts.write_counts.Tie as tie
 

@@ -1,14 +1,10 @@
 -- `report::count::count_record` meets its contract: the choice is that of the IP packet in the record.
 -- Assumes nothing.
-use mathlib.Core.Path.{_≡_, ap, _∙_}
-use mathlib.Core.Bool.{cond}
-use Prim.Native.Nat.{ℕ}
-use lib.ListN.{length, take}
+use Rattle.octets.specs.Prelude.{_≡_, ap, _∙_, cond, ℕ, length, take, needs}
 use Rattle.steering.specs.Steering.{Choice, queueIn, choiceOf, steered}
 use Rattle.capture.specs.Packets.{ipPart}
 use Rattle.report.specs.Counting.{isUnhashed}
 use Rattle.report.specs.Inner.{addedAt}
-use borrow.Author.Needs.{needs}
 use Rattle.report.proofs.count.count_record.Statement.{statement}
 use Rattle.report.proofs.count.count_record.Tie as tie
 

@@ -1,13 +1,8 @@
 -- `report::count::count_records` meets its contract: at each place the counts, with what the records from there on come to,
 -- are what all records come to.
 -- Assumes nothing.
-use mathlib.Core.Path.{_≡_, sym, ap, subst, _∙_}
-use mathlib.Core.List.{List}
-use Prim.Native.Nat.{ℕ, _+_, _-_, _≤_, _<_}
-use native.Mathlib.Omega.{arith}
-use lib.ListN.{length, take, drop, length-drop}
-use lib.Seq.{length-take-le}
-use borrow.Author.Needs.{needs}
+use Rattle.octets.specs.Prelude.{_≡_, sym, ap, subst, _∙_, List, ℕ, _+_, _-_, _≤_, _<_, arith, length, take, drop, length-drop}
+use Rattle.octets.specs.Prelude.{length-take-le, needs}
 use Rattle.octets.specs.Outcome.{value}
 use Rattle.messages.specs.Settings.{Settings, maxQueues}
 use Rattle.steering.specs.Steering.{queueIn}

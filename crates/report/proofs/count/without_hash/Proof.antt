@@ -1,7 +1,6 @@
 -- `report::count::without_hash` meets its contract: 1 for the case that has no hash.
 -- Assumes nothing.
-use mathlib.Core.Path.{refl}
-use borrow.Author.Needs.{needs}
+use Rattle.octets.specs.Prelude.{refl, needs}
 use Rattle.report.proofs.count.without_hash.Statement.{statement}
 use Rattle.report.proofs.count.without_hash.Tie as tie
 

@@ -1,8 +1,6 @@
 -- `ring::receiving::read_header` meets its contract: the part that is lent holds all octets that are missing and there.
 -- Assumes nothing.
-use mathlib.Core.Path.{refl, sym}
-use native.Mathlib.Omega.{arith}
-use borrow.Author.Needs.{needs}
+use Rattle.octets.specs.Prelude.{refl, sym, arith, needs}
 use Rattle.ring.proofs.Steps.{none-set, part-read}
 use Rattle.ring.proofs.receiving.read_header.Statement.{statement}
 use Rattle.ring.proofs.receiving.read_header.Tie as tie

@@ -1,10 +1,6 @@
 -- `ring::receiving::read_payload` meets its contract: octets behind those that the part lent holds would change nothing.
 -- Assumes nothing.
-use mathlib.Core.Path.{_≡_, refl, sym}
-use Prim.Native.Nat.{_+_, _-_, _^_, _≤_, _<_}
-use native.Mathlib.Omega.{arith}
-use borrow.Author.Needs.{needs}
-use borrow.Author.Tests.{lt-ltb, le-ltb}
+use Rattle.octets.specs.Prelude.{_≡_, refl, sym, _+_, _-_, _^_, _≤_, _<_, arith, needs, lt-ltb, le-ltb}
 use Rattle.messages.specs.Wire.{headerSize}
 use Rattle.page.specs.Page.{octetsIn}
 use Rattle.ring.specs.Inner.{payloadMoved}

@@ -1,12 +1,6 @@
 -- `ring::receiving::receive` meets its contract: reading in two blocks is reading octet by octet.
 -- Assumes nothing.
-use mathlib.Core.Path.{_≡_}
-use mathlib.Core.List.{List}
-use Prim.Native.Nat.{ℕ, _+_, _≤_}
-use native.Mathlib.Omega.{arith}
-use lib.ListN.{length}
-use lib.Seq.{length-sets}
-use borrow.Author.Needs.{needs}
+use Rattle.octets.specs.Prelude.{_≡_, List, ℕ, _+_, _≤_, arith, length, length-sets, needs}
 use Rattle.messages.specs.Wire.{headerSize}
 use Rattle.ring.specs.Reading.{Message, Incoming, incomingOf}
 use Rattle.ring.proofs.Steps.{moved-most, taken-most, received-blocks}

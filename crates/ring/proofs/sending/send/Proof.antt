@@ -1,10 +1,6 @@
 -- `ring::sending::send` meets its contract: as many octets are written as fit.
 -- Assumes nothing.
-use mathlib.Core.Path.{_≡_, ap, _∙_}
-use Prim.Native.Nat.{ℕ, _+_, _-_}
-use native.Mathlib.Omega.{arith}
-use lib.ListN.{take, drop}
-use borrow.Author.Needs.{needs}
+use Rattle.octets.specs.Prelude.{_≡_, ap, _∙_, ℕ, _+_, _-_, arith, take, drop, needs}
 use Rattle.page.specs.Page.{put}
 use Rattle.ring.proofs.sending.send.Statement.{statement}
 use Rattle.ring.proofs.sending.send.Tie as tie

@@ -1,7 +1,6 @@
 -- `text::line::with_number` meets its contract: three growths, one after the other.
 -- Assumes nothing.
-use native.Mathlib.Omega.{arith}
-use borrow.Author.Needs.{needs}
+use Rattle.octets.specs.Prelude.{arith, needs}
 use Rattle.text.proofs.Growth.{adds-then}
 use Rattle.text.proofs.line.with_number.Statement.{statement}
 use Rattle.text.proofs.line.with_number.Tie as tie

@@ -1,9 +1,6 @@
 -- `text::piece::with_decimal` meets its contract: `io::decimal` writes the fewest digits, and 20 hold any 64-bit number.
 -- Assumes nothing.
-use mathlib.Core.Path.{ap, _∙_}
-use Prim.Native.Nat.{ℕ, _≤_}
-use native.Mathlib.Omega.{arith}
-use borrow.Author.Needs.{needs}
+use Rattle.octets.specs.Prelude.{ap, _∙_, ℕ, _≤_, arith, needs}
 use Rattle.io.specs.Digits.{digits}
 use Rattle.text.specs.Ascii.{decimal}
 use Rattle.text.proofs.Growth.{adds-first}

@@ -1,9 +1,6 @@
 -- `text::piece::with_hex` meets its contract: `io::hex` writes eight digits, which hold any 32-bit number.
 -- Assumes nothing.
-use mathlib.Core.Path.{_≡_, ap, _∙_}
-use Prim.Native.Nat.{ℕ}
-use native.Mathlib.Omega.{arith}
-use borrow.Author.Needs.{needs}
+use Rattle.octets.specs.Prelude.{_≡_, ap, _∙_, ℕ, arith, needs}
 use Rattle.io.specs.Digits.{digits}
 use Rattle.text.specs.Ascii.{hex8}
 use Rattle.text.proofs.Growth.{adds-first}

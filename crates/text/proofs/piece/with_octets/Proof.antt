@@ -1,10 +1,6 @@
 -- `text::piece::with_octets` meets its contract. The loop's invariant: the first i octets were added.
 -- Assumes nothing.
-use Prim.Native.Nat.{_≤_, _-_}
-use native.Mathlib.Omega.{arith}
-use borrow.Author.Needs.{needs}
-use lib.ListN.{length, take}
-use lib.Seq.{length-take-le, take-all}
+use Rattle.octets.specs.Prelude.{_≤_, _-_, arith, needs, length, take, length-take-le, take-all}
 use Rattle.text.specs.Text.{Adds}
 use Rattle.text.proofs.Growth.{adds-none, adds-next}
 use Rattle.text.proofs.piece.with_octets.Statement.{statement}

@@ -1,10 +1,6 @@
 -- `toeplitz::directions::first_difference` meets its contract. The loop's invariant: the two windows, and that all below j are equal.
 -- Assumes nothing.
-use mathlib.Core.Path.{_≡_, sym, _∙_}
-use Prim.Native.Nat.{_≤_, _+_, _*_, _-_}
-use native.Mathlib.Nat.{add-zero, add-assoc}
-use native.Mathlib.Omega.{arith}
-use borrow.Author.Needs.{needs}
+use Rattle.octets.specs.Prelude.{_≡_, sym, _∙_, _≤_, _+_, _*_, _-_, add-zero, add-assoc, arith, needs}
 use borrow.Author.Count.{below-more}
 use Rattle.toeplitz.specs.Hash.{windowAt}
 use Rattle.toeplitz.specs.Inner.{SameBelow}

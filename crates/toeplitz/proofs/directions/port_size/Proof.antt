@@ -1,8 +1,6 @@
 -- `toeplitz::directions::port_size` meets its contract, by the cases of the definition: the odd types have ports.
 -- Assumes nothing.
-use mathlib.Core.Path.{_≡_, refl}
-use Prim.Native.Nat.{ℕ, zero, suc, _%_, _*_, _≤_}
-use native.Mathlib.Omega.{arith}
+use Rattle.octets.specs.Prelude.{_≡_, refl, ℕ, zero, suc, _%_, _*_, _≤_, arith}
 use Rattle.toeplitz.specs.TwoWay.{portSize}
 use Rattle.toeplitz.proofs.directions.port_size.Statement.{statement}
 use Rattle.toeplitz.proofs.directions.port_size.Tie as tie

@@ -1,11 +1,6 @@
 -- `toeplitz::directions::two_way` meets its contract: the tests and the two searches pick the case of `twoWayOutcome`.
 -- Assumes nothing.
-use mathlib.Core.Path.{_≡_, sym, ap, _∙_}
-use mathlib.Core.List.{List}
-use Prim.Native.Nat.{ℕ, _+_, _*_}
-use native.Mathlib.Omega.{arith}
-use borrow.Author.Needs.{needs}
-use borrow.Author.Tests.{eq-eqb, ne-eqb, le-leb, lt-leb}
+use Rattle.octets.specs.Prelude.{_≡_, sym, ap, _∙_, List, ℕ, _+_, _*_, arith, needs, eq-eqb, ne-eqb, le-leb, lt-leb}
 use Rattle.octets.specs.Outcome.{value}
 use Rattle.toeplitz.specs.TwoWay.{addressSize, portSize, Verdict, differAt, verdict, twoWayOutcome}
 use Rattle.toeplitz.specs.declared.directions.Found.{Found}

@@ -1,10 +1,6 @@
 -- `toeplitz::hashing::add_octet` meets its contract. The loop's invariant: the window at bit j of the octet, and the bits below j are added.
 -- Assumes nothing.
-use mathlib.Core.Path.{_≡_}
-use Prim.Native.Nat.{_≤_, _+_, _*_, _-_}
-use native.Mathlib.Nat.{add-zero, add-assoc}
-use native.Mathlib.Omega.{arith}
-use borrow.Author.Needs.{needs}
+use Rattle.octets.specs.Prelude.{_≡_, _≤_, _+_, _*_, _-_, add-zero, add-assoc, arith, needs}
 use Rattle.toeplitz.specs.Hash.{windowAt}
 use Rattle.toeplitz.specs.Inner.{hashBelow}
 use Rattle.toeplitz.proofs.Windows.{sum-next}

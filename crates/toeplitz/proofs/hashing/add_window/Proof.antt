@@ -1,6 +1,6 @@
 -- `toeplitz::hashing::add_window` meets its contract.
 -- Assumes nothing.
-use mathlib.Core.Path.{refl}
+use Rattle.octets.specs.Prelude.{refl}
 use Rattle.toeplitz.proofs.hashing.add_window.Statement.{statement}
 use Rattle.toeplitz.proofs.hashing.add_window.Tie as tie
 

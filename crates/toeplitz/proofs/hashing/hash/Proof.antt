@@ -1,11 +1,6 @@
 -- `toeplitz::hashing::hash` meets its contract: the tests on the way to each return pick the case of `hashOutcome`.
 -- Assumes nothing.
-use mathlib.Core.Path.{_≡_, ap}
-use Prim.Native.Nat.{_<_}
-use native.Mathlib.Omega.{arith}
-use lib.ListN.{length}
-use borrow.Author.Needs.{needs}
-use borrow.Author.Tests.{eq-eqb, ne-eqb, le-leb, lt-leb}
+use Rattle.octets.specs.Prelude.{_≡_, ap, _<_, arith, length, needs, eq-eqb, ne-eqb, le-leb, lt-leb}
 use Rattle.octets.specs.Outcome.{value}
 use Rattle.toeplitz.specs.Hash.{keyLength, maxInput}
 use Rattle.toeplitz.proofs.hashing.hash.Statement.{statement}

@@ -1,10 +1,6 @@
 -- `toeplitz::hashing::hash_octets` meets its contract. The loop's invariant: the input bits of the octets below `at` are added.
 -- Assumes nothing.
-use mathlib.Core.Path.{_≡_, refl}
-use Prim.Native.Nat.{_≤_, _+_, _*_, _-_}
-use native.Mathlib.Omega.{arith}
-use borrow.Author.Needs.{needs}
-use lib.ListN.{length}
+use Rattle.octets.specs.Prelude.{_≡_, refl, _≤_, _+_, _*_, _-_, arith, needs, length}
 use Rattle.toeplitz.specs.Hash.{xorBelow, publishedHash}
 use Rattle.toeplitz.specs.Inner.{hashBelow}
 use Rattle.toeplitz.proofs.hashing.hash_octets.Statement.{statement}

@@ -1,12 +1,6 @@
 -- `toeplitz::hashing::hash_of` meets its contract: the parts lent on are the slices whole.
 -- Assumes nothing.
-use mathlib.Core.Path.{_≡_, ap₂, _∙_}
-use mathlib.Core.List.{List}
-use Prim.Native.Nat.{ℕ, _-_}
-use native.Mathlib.Omega.{arith}
-use lib.ListN.{length, take}
-use lib.Seq.{take-all}
-use borrow.Author.Needs.{needs}
+use Rattle.octets.specs.Prelude.{_≡_, ap₂, _∙_, List, ℕ, _-_, arith, length, take, take-all, needs}
 use Rattle.toeplitz.specs.Hash.{publishedHash}
 use Rattle.toeplitz.proofs.hashing.hash_of.Statement.{statement}
 use Rattle.toeplitz.proofs.hashing.hash_of.Tie as tie

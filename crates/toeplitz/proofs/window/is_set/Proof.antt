@@ -1,7 +1,6 @@
 -- `toeplitz::window::is_set` meets its contract: what it computes is the definition.
 -- Assumes nothing.
-use borrow.Author.Needs.{needs}
-use mathlib.Core.Path.{refl}
+use Rattle.octets.specs.Prelude.{needs, refl}
 use Rattle.toeplitz.proofs.window.is_set.Statement.{statement}
 use Rattle.toeplitz.proofs.window.is_set.Tie as tie
 

@@ -1,9 +1,6 @@
 -- `toeplitz::window::next_window` meets its contract: the law of a window with the octet of the next key bit drawn in.
 -- Assumes nothing.
-use mathlib.Core.Path.{_≡_, ap₂, _∙_}
-use borrow.Author.Needs.{needs}
-use Prim.Native.Nat.{ℕ, _+_, _-_, _*_, _/_, _%_, _^_}
-use lib.ListN.{getD}
+use Rattle.octets.specs.Prelude.{_≡_, ap₂, _∙_, needs, ℕ, _+_, _-_, _*_, _/_, _%_, _^_, getD}
 use lib.Bits.{bitOr}
 use Rattle.toeplitz.proofs.Windows.{window-drawn}
 use Rattle.toeplitz.proofs.window.next_window.Statement.{statement}

@@ -1,7 +1,7 @@
 -- `zwerfen::zwerfen_guest_start_set_flags` meets its contract: the guest is lent in parts to `on_parts::start_set_flags` (`Exports.antt` of the
 -- crate `lending`). All that the proof knows of that function is that it meets its contract.
 -- Assumes nothing.
-use mathlib.Core.Path.{refl}
+use Rattle.octets.specs.Prelude.{refl}
 use mir.Syntax.{named, tyInt, w32, w64}
 use contract.Running.{givenOf}
 use denote.Builtin.{u8}

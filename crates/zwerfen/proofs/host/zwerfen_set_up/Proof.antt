@@ -1,7 +1,7 @@
 -- `zwerfen::zwerfen_set_up` meets its contract: the interface is lent in parts to `on_parts::set_up` (`Exports.antt` of the
 -- crate `lending`). All that the proof knows of that function is that it meets its contract.
 -- Assumes nothing.
-use mathlib.Core.Path.{refl}
+use Rattle.octets.specs.Prelude.{refl}
 use mir.Syntax.{tyInt, w32}
 use contract.Running.{givenOf}
 use Rattle.on_parts.proofs.set_up as on-parts
