@@ -11,11 +11,9 @@ use Rattle.page.specs.Page.{pageSize, areaSize}
 use Rattle.ring.specs.Reading.{whole}
 use Rattle.interface.specs.States.{queuesWrong, interfaceAtSetup, setUpOutcome}
 use Rattle.interface.specs.Events.{After, waiting, ackWritten, ackOwed, unread, unreadAcks}
-use Rattle.interface.specs.Events.{refusedWith, owes, responded, readIn, carriedOver, proceeded, eventOf, answerNumber}
+use Rattle.interface.specs.Events.{refusedWith, owes, responded, readIn, carriedOver, proceeded, eventOf}
 use Rattle.backend.specs.Rules.{Accepted, room, afterReading}
 use Rattle.interface.specs.States.{HostState}
-use Rattle.interface.specs.declared.EventAnswer.{EventAnswer}
-use Rattle.interface.specs.declared.EventAnswer.the-variants.{Waiting, Written, Owed, PageLength, RequestCount, ResponseCount}
 use Rattle.backend.proofs.Branches.{event-ways, proceeded-cases, event-cases}
 
 -- setup gives the interface for 1 to 64 queues, and refuses any other number by 6
@@ -38,25 +36,6 @@ set-up-refuses q = (
         → cond t (value (interfaceAtSetup q)) (refused queuesWrong) ≡ refused queuesWrong
     by true e outside = let x = both-true (leb 1 q) (leb q maxQueues) .0 e in absurd (outside (leb-true _ _ (x .0), leb-true _ _ (x .1)))
     by false e outside = refl
-
--- the numbers keep the answers apart, so the contract leaves no choice
-event-answer : ℕ → EventAnswer
-event-answer n =
-    cond (eqb n waiting) Waiting
-    (cond (eqb n ackWritten) Written
-    (cond (eqb n ackOwed) Owed (cond (eqb n pageWrong) PageLength (cond (eqb n requestsWrong) RequestCount ResponseCount))))
-
-event-answer-back : (a : EventAnswer) → event-answer (answerNumber a) ≡ a
-unfolding event-answer
-event-answer-back Waiting = refl
-event-answer-back Written = refl
-event-answer-back Owed = refl
-event-answer-back PageLength = refl
-event-answer-back RequestCount = refl
-event-answer-back ResponseCount = refl
-
-pub event-answer-determined : (a b : EventAnswer) → answerNumber a ≡ answerNumber b → a ≡ b
-event-answer-determined a b e = sym (event-answer-back a) ∙ ap event-answer e ∙ event-answer-back b
 
 -- a response answers 1 or 2
 responded-answer : (s : HostState) (page : List ℕ) (n : ℕ)

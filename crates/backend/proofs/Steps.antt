@@ -5,10 +5,8 @@ use Rattle.page.specs.Refusals.{pageWrong, requestsWrong, responsesWrong}
 use Rattle.page.specs.Page.{pageSize, areaSize, counted}
 use Rattle.ring.specs.Reading.{whole}
 use Rattle.interface.specs.States.{HostState, Good}
-use Rattle.interface.specs.Events.{After, unread, unreadAcks, refusedWith, owes}
+use Rattle.interface.specs.Events.{After, waiting, unread, unreadAcks, refusedWith, owes}
 use Rattle.interface.specs.Events.{responded, readIn, carriedOver, afterRead, proceeded, eventOf, left}
-use Rattle.interface.specs.declared.EventAnswer.{EventAnswer}
-use Rattle.interface.specs.declared.EventAnswer.the-variants.{Waiting}
 use Rattle.backend.proofs.Goodness.{good-event}
 
 -- ack octets owed: they are written
@@ -31,7 +29,7 @@ module _ (t : HostState) (page : List ℕ) (room : ℕ) where
 
   pub concludes-part : (octets : List ℕ) → whole (t .incoming .message) ≡ false
       → octets ≡ counted page (t .incoming .cons) (t .outgoing .prod)
-      → left Waiting t octets ≡ afterRead t page room
+      → left waiting t octets ≡ afterRead t page room
   unfolding afterRead
   concludes-part octets w q = rw (w, q) refl
 
@@ -59,7 +57,7 @@ goes-on s page n m size requests few responses some =
     rw (eq-eqb _ _ size, ← requests, le-leb _ _ few, ← responses, le-leb _ _ some) refl
 
 -- the state that an event leaves is good
-pub event-good : (s t : HostState) (page octets : List ℕ) (r : EventAnswer) → Good s → left r t octets ≡ eventOf s page → Good t
+pub event-good : (s t : HostState) (page octets : List ℕ) (r : ℕ) → Good s → left r t octets ≡ eventOf s page → Good t
 event-good s t page octets r good e =
     let same : t ≡ eventOf s page .state = ap (λ (a : After). a .state) e in
     rw same (good-event s page good)

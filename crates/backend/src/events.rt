@@ -8,25 +8,28 @@ ghost use Rattle.interface.specs.States.{Good, settingsIn, interfaceIn};
 ghost use Rattle.interface.specs.Events.{left, carriedOver, afterRead, proceeded, eventOf};
 use interface::ACK_LENGTH;
 use interface::ACK_WRITTEN;
-use interface::EventAnswer;
 use interface::NUMBERS;
 use interface::OWN_REQ_CONS;
 use interface::OWN_RSP_PROD;
 use interface::TAKEN;
+use interface::WAITING;
 use messages::HEADER;
 use messages::MAX_ACK;
 use messages::MAX_ENTRIES;
 use messages::MAX_PAYLOAD;
 use page::AREA;
 use page::PAGE;
+use page::PAGE_WRONG;
 use page::REQ_CONS;
 use page::REQ_PROD;
+use page::REQUESTS_WRONG;
+use page::RESPONSES_WRONG;
 use page::RSP_CONS;
 use page::RSP_PROD;
 use toeplitz::KEY_LENGTH;
 
-// One event of the interface whose parts are lent, on its page. The own counts are those in the numbers, whatever the page
-// says of them.
+// One event of the interface whose parts are lent, on its page, answered by document 01's number. The own counts are those in
+// the numbers, whatever the page says of them.
 pub fn event<'a>(
     numbers: &'a mut [u64; NUMBERS],
     header: &'a mut [u8; HEADER],
@@ -35,25 +38,25 @@ pub fn event<'a>(
     key: &'a mut [u8; KEY_LENGTH],
     entries: &'a mut [u8; MAX_ENTRIES],
     page: &mut [u8],
-) -> EventAnswer
+) -> u32
     requires { ⌜ Good (interfaceIn (now numbers) (now header) (now payload) (now ack) (now key) (now entries)) ⌝ }
-    ensures { λ r. ⌜ left r (interfaceIn (now (numbers .exit)) (now (header .exit)) (now (payload .exit)) (now (ack .exit)) (now (key .exit))
+    ensures { λ r. ⌜ (left r (interfaceIn (now (numbers .exit)) (now (header .exit)) (now (payload .exit)) (now (ack .exit)) (now (key .exit))
         (now (entries .exit))) (now (page .exit))
         ≡ eventOf (interfaceIn (now (numbers .entry)) (now (header .entry)) (now (payload .entry)) (now (ack .entry)) (now (key .entry))
-        (now (entries .entry))) (now (page .entry)) ⌝ }
-    ensures { λ _. ⌜ Good (interfaceIn (now (numbers .exit)) (now (header .exit)) (now (payload .exit)) (now (ack .exit)) (now (key .exit))
+        (now (entries .entry))) (now (page .entry)))
+        × Good (interfaceIn (now (numbers .exit)) (now (header .exit)) (now (payload .exit)) (now (ack .exit)) (now (key .exit))
         (now (entries .exit))) ⌝ }
 {
     if page.len() != PAGE {
-        return EventAnswer::PageLength;
+        return PAGE_WRONG;
     }
     let unread = page::unread_here(&page[..], REQ_PROD, numbers[OWN_REQ_CONS] as u32);
     if unread > AREA {
-        return EventAnswer::RequestCount;
+        return REQUESTS_WRONG;
     }
     let waiting = page::unread_by_other(&page[..], RSP_CONS, numbers[OWN_RSP_PROD] as u32);
     if waiting > AREA {
-        return EventAnswer::ResponseCount;
+        return RESPONSES_WRONG;
     }
     proceed(
         numbers,
@@ -79,7 +82,7 @@ fn proceed(
     page: &mut [u8],
     unread: u32,
     room: u32,
-) -> EventAnswer
+) -> u32
     requires { ⌜ Good (interfaceIn (now numbers) (now header) (now payload) (now ack) (now key) (now entries)) ⌝ }
     requires { ⌜ (length (now page) ≡ pageSize) × (unread ≤ areaSize) × (room ≤ areaSize) ⌝ }
     ensures { λ r. ⌜ left r (interfaceIn (now (numbers .exit)) (now (header .exit)) (now (payload .exit)) (now (ack .exit)) (now (key .exit))
@@ -104,7 +107,7 @@ fn conclude(
     entries: &mut [u8; MAX_ENTRIES],
     page: &mut [u8],
     room: u32,
-) -> EventAnswer
+) -> u32
     requires { ⌜ GoodSettings (settingsIn (now numbers) (now key) (now entries)) ⌝ }
     requires { ⌜ Good (carriedOver (interfaceIn (now numbers) (now header) (now payload) (now ack) (now key) (now entries))) ⌝ }
     requires { ⌜ (length (now page) ≡ pageSize) × (room ≤ areaSize) × (getD (now numbers) 4 0 < 2 ^ 32)
@@ -125,5 +128,5 @@ fn conclude(
         RSP_PROD,
         numbers[OWN_RSP_PROD] as u32,
     );
-    EventAnswer::Waiting
+    WAITING
 }

@@ -1,10 +1,11 @@
 // A new interface, written in place.
 ghost use Rattle.octets.specs.Prelude.{_≡_};
 ghost use Rattle.octets.specs.Outcome.{numberOf, placed, itself};
-ghost use Rattle.interface.specs.States.{interfaceIn, setUpOutcome, setUpNumber};
+ghost use Rattle.interface.specs.States.{interfaceIn, setUpOutcome};
 use crate::MAX_QUEUES;
 use interface::NUMBERS;
-use interface::SetUpAnswer;
+use interface::QUEUES_WRONG;
+use interface::SET_UP;
 use messages::HEADER;
 use messages::MAX_ACK;
 use messages::MAX_ENTRIES;
@@ -21,17 +22,17 @@ pub fn set_up<'a>(
     key: &'a mut [u8; KEY_LENGTH],
     entries: &'a mut [u8; MAX_ENTRIES],
     queues: u32,
-) -> SetUpAnswer
-    ensures { λ r. ⌜ (setUpNumber r ≡ numberOf (setUpOutcome queues))
+) -> u32
+    ensures { λ r. ⌜ (r ≡ numberOf (setUpOutcome queues))
         × (interfaceIn (now (numbers .exit)) (now (header .exit)) (now (payload .exit)) (now (ack .exit)) (now (key .exit)) (now (entries .exit))
         ≡ placed itself (setUpOutcome queues) (interfaceIn (now (numbers .entry)) (now (header .entry)) (now (payload .entry))
         (now (ack .entry)) (now (key .entry)) (now (entries .entry)))) ⌝ }
 {
     if queues == 0 {
-        return SetUpAnswer::Queues;
+        return QUEUES_WRONG;
     }
     if queues > MAX_QUEUES {
-        return SetUpAnswer::Queues;
+        return QUEUES_WRONG;
     }
     // No flags, a mapping of one entry, queue 0, and all else 0.
     *numbers = [queues as u64, 0, 1, 0, 0, 0, 0, 0];
@@ -40,5 +41,5 @@ pub fn set_up<'a>(
     *ack = [0; MAX_ACK];
     *key = [0; KEY_LENGTH];
     *entries = [0; MAX_ENTRIES];
-    SetUpAnswer::Made
+    SET_UP
 }

@@ -2,9 +2,18 @@
 -- Assumes nothing.
 use Rattle.octets.specs.Prelude.{_≡_, ap, _∙_, List, ℕ}
 use Rattle.guest_steps.specs.Guest.{GuestState, toldNumber, toldOf}
-use Rattle.guest_steps.specs.Calls.{After, left}
+use Rattle.guest_steps.specs.Calls.{After, left, leftBy}
 use Rattle.guest_steps.specs.declared.GuestAnswer.{GuestAnswer}
 use Rattle.by_number.specs.Answers.{Leaves}
+
+-- a call that answers by number
+pub tells-number : (a : After) (r : ℕ) (g : GuestState) (octets : List ℕ) → leftBy r g octets ≡ a → Leaves a r g octets
+tells-number a r g octets e =
+    record {
+      answer = ap (λ (x : After). toldNumber (x .answer)) e;
+      state = ap (λ (x : After). x .state) e;
+      octets = ap (λ (x : After). x .page) e;
+    }
 
 pub tells : (a : After) (answer : GuestAnswer) (r : ℕ) (g : GuestState) (octets : List ℕ) → left answer g octets ≡ a
     → r ≡ toldNumber (toldOf answer) → Leaves a r g octets

@@ -1,5 +1,4 @@
 -- The laws by which answers are told, and what a reader wants of them.
 pub mod Driving
-pub mod Events
 pub mod Told
 pub mod Theorems

@@ -5,12 +5,12 @@ use Rattle.octets.specs.Outcome.{value, refused, done, numberOf, placed, itself
 use Rattle.octets.proofs.Truth.{both-true}
 use Rattle.messages.specs.Settings.{maxQueues}
 use Rattle.interface.specs.States.{Good, queuesWrong, interfaceAtSetup, setUpOutcome, steeredBy}
-use Rattle.interface.specs.Events.{After, ackOwed, eventOf}
+use Rattle.interface.specs.Events.{After, ackOwed, eventOf, left}
 use Rattle.interface.specs.States.{HostState}
 use Rattle.backend.proofs.Goodness.{good-interface}
 use Rattle.backend.proofs.Answers.{refused-leaves-all}
 use Rattle.backend.proofs.Queues.{good-queue}
-use Rattle.by_number.specs.Answers.{left, Steers}
+use Rattle.by_number.specs.Answers.{Steers}
 
 -- a setup that is answered 0 leaves a state that the other calls can be asked with
 pub set-up-good : (q : ℕ) (s : HostState) → numberOf (setUpOutcome q) ≡ done → Good (placed itself (setUpOutcome q) s)

@@ -5,8 +5,6 @@ use Rattle.octets.specs.Prelude.{_≡_, List, ℕ}
 use Rattle.octets.specs.Outcome.{Outcome, numberOf, placed, itself}
 use Rattle.toeplitz.specs.TwoWay.{Verdict, agree, differAt}
 use Rattle.steering.specs.Steering.{Choice, unhashed, hashed, queueIn}
-use Rattle.interface.specs.Events.{After}
-use Rattle.interface.specs.States.{HostState}
 use Rattle.guest_messages.specs.Writer.{written}
 use Rattle.guest_messages.specs.Reader.{Reading, status, statusAndFlags}
 use Rattle.guest_steps.specs.Guest.{GuestState, Told, number, acked, toldNumber}
@@ -55,10 +53,6 @@ pub record Writes (message : Outcome (List ℕ)) (buffer : List ℕ) (before r :
   pub number : r ≡ numberOf (written message buffer .answer)
   pub octets : left ≡ written message buffer .buffer
   pub place : length ≡ placed itself (written message buffer .answer) before
-
--- what an event answers by its number, and leaves
-abbrev pub left : ℕ → HostState → List ℕ → After
-left r s page = record { answer = r; state = s; page = page }
 
 -- of what a call of the guest's end tells: the status, and the flags, where an ack says them
 abbrev pub statusOfTold : Told → ℕ → ℕ

@@ -18,10 +18,9 @@ use Rattle.guest_messages.specs.Reader.{Reading}
 use Rattle.guest_messages.specs.Writer.{fieldsOf, getFlagsMessage, setFlagsMessage, setKeyMessage, setMappingMessage}
 use Rattle.guest_steps.specs.Guest.{idle, failed, maxRequest, maxAckPayload, incoming, withIncoming, owes, guestAtSetup, Good}
 use Rattle.guest_steps.specs.Calls.{After, Found, found, begun, wroteOn, startedBy, readied, startBy, startOf, doneWith}
-use Rattle.guest_steps.specs.Calls.{Seen, part, judged, sizeWrong, seen, concluded, readOn, eventBy, eventOf, left}
+use Rattle.guest_steps.specs.Calls.{Seen, part, judged, sizeWrong, seen, concluded, readOn, eventBy, eventOf, leftBy}
 use Rattle.frontend.specs.Rules.{Asked, getsFlags, setsFlags, setsKey, setsMapping}
 use Rattle.guest_steps.specs.Guest.{GuestState}
-use Rattle.guest_steps.specs.declared.GuestAnswer.{GuestAnswer}
 use Rattle.guest_messages.proofs.Theorems.{message-lengths}
 
 -- the writer's messages have their place
@@ -178,9 +177,9 @@ pub good-event : (g : GuestState) (page : List ℕ) → Good g → Good (eventOf
 good-event g page good = good-event-by (found g page) g page good
 
 -- what a start in place leaves is what the definition says, and good
-pub starts-good : (o : Outcome (List ℕ)) (g t : GuestState) (page octets : List ℕ) (r : GuestAnswer)
-    → Fits o → Good g → left r t octets ≡ startOf o g page
-    → (left r t octets ≡ startOf o g page) × Good t
+pub starts-good : (o : Outcome (List ℕ)) (g t : GuestState) (page octets : List ℕ) (r : ℕ)
+    → Fits o → Good g → leftBy r t octets ≡ startOf o g page
+    → (leftBy r t octets ≡ startOf o g page) × Good t
 starts-good o g t page octets r short good e =
     let same : t ≡ startOf o g page .state = ap (λ (a : After). a .state) e in
     (e, rw same (good-started o g page short good))

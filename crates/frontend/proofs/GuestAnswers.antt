@@ -23,7 +23,7 @@ use Rattle.guest_steps.specs.declared.GuestAnswer.{GuestAnswer}
 use Rattle.guest_steps.specs.declared.GuestAnswer.the-variants.{Pending, RequestOwed, AckedStatus, AckedFlags, Refused}
 use Rattle.guest_steps.specs.declared.Refusal.{Refusal}
 use Rattle.guest_steps.specs.declared.Refusal.the-variants.{PageLength, RequestCount, ResponseCount}
-use Rattle.guest_steps.specs.declared.Refusal.the-variants.{AckRefused, Outstanding, KeyRefused, ValueRefused}
+use Rattle.guest_steps.specs.declared.Refusal.the-variants.{AckRefused, Outstanding}
 use Rattle.frontend.proofs.Goodness.{judged-all}
 use Rattle.frontend.proofs.Ways.{found-ways, seen-ways, event-ways, start-ways}
 
@@ -33,8 +33,7 @@ refusal k =
     cond (eqb k pageWrong) PageLength
     (cond (eqb k requestsWrong) RequestCount
     (cond (eqb k responsesWrong) ResponseCount
-    (cond (eqb k notAnAck) AckRefused
-    (cond (eqb k requestOutstanding) Outstanding (cond (eqb k keyLengthWrong) KeyRefused ValueRefused)))))
+    (cond (eqb k notAnAck) AckRefused Outstanding)))
 
 unfoldable guest-answer : Told → GuestAnswer
 guest-answer (number k) = cond (eqb k pending) Pending (cond (eqb k requestOwed) RequestOwed (Refused (refusal k)))
@@ -52,8 +51,6 @@ guest-answer-back (Refused RequestCount) = refl
 guest-answer-back (Refused ResponseCount) = refl
 guest-answer-back (Refused AckRefused) = refl
 guest-answer-back (Refused Outstanding) = refl
-guest-answer-back (Refused KeyRefused) = refl
-guest-answer-back (Refused ValueRefused) = refl
 
 pub guest-answer-determined : (a b : GuestAnswer) → toldOf a ≡ toldOf b → a ≡ b
 guest-answer-determined a b e = sym (guest-answer-back a) ∙ ap guest-answer e ∙ guest-answer-back b

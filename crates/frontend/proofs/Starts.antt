@@ -18,14 +18,11 @@ use Rattle.guest_messages.specs.declared.Written.{Written}
 use Rattle.guest_messages.specs.declared.Written.the-variants.{Length, Buffer}
 use Rattle.guest_steps.specs.Refusals.{requestOutstanding}
 use Rattle.guest_steps.specs.Guest.{GuestState, maxRequest, idle, outstanding, failed, guestOf, guestIn, outgoing, withOutgoing}
-use Rattle.guest_steps.specs.Guest.{number, pending, requestOwed, refusalNumber, toldOf}
-use Rattle.guest_steps.specs.Calls.{Found, unreadRequests, unreadAcks, found, wroteOn, messageOf, startedBy, readied, startBy, startOf, left}
+use Rattle.guest_steps.specs.Guest.{number, pending, requestOwed, toldOf}
+use Rattle.guest_steps.specs.Calls.{Found, unreadRequests, unreadAcks, found, wroteOn, messageOf, startedBy, readied, startBy, startOf, leftBy}
 use Rattle.frontend.specs.Rules.{Asked, getsFlags, setsFlags, setsKey, setsMapping}
 use Rattle.guest_steps.specs.declared.Ask.{Ask}
 use Rattle.guest_steps.specs.declared.Ask.the-variants.{GetFlags, SetFlags, SetKey, SetMapping}
-use Rattle.guest_steps.specs.declared.Refusal.{Refusal}
-use Rattle.guest_steps.specs.declared.GuestAnswer.{GuestAnswer}
-use Rattle.guest_steps.specs.declared.GuestAnswer.the-variants.{Refused}
 use Rattle.frontend.proofs.Goodness.{asked-fits}
 use Rattle.guest_steps.proofs.Stored.{stored-outgoing}
 use Rattle.frontend.proofs.Ways.{found-ways}
@@ -125,13 +122,13 @@ asks SetMapping key entries = setsMapping entries
 
 -- a start, by what it finds: it is stopped
 module _ (o : Outcome (List ℕ)) (g : GuestState) (page : List ℕ) where
-  pub starts-stopped : (k : Refusal) → refused (refusalNumber k) ≡ readied (found g page) g → left (Refused k) g page ≡ startOf o g page
+  pub starts-stopped : (k : ℕ) → refused k ≡ readied (found g page) g → leftBy k g page ≡ startOf o g page
   unfolding startBy
   starts-stopped k stopped = rw (← stopped) refl
 
   -- or it has room: the writer refuses the request, or it begins
   module _ (room : ℕ) (there : value room ≡ readied (found g page) g) where
-    pub starts-refused : (k : Refusal) → o ≡ refused (refusalNumber k) → left (Refused k) g page ≡ startOf o g page
+    pub starts-refused : (k : ℕ) → o ≡ refused k → leftBy k g page ≡ startOf o g page
     unfolding startBy startedBy
     starts-refused k e = rw (← there, e) refl
 

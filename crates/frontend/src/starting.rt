@@ -2,22 +2,25 @@
 // into its place, where nothing of another one is kept, and as much of it as fits goes to the page.
 ghost use Rattle.octets.specs.Prelude.{_≡_};
 ghost use Rattle.guest_steps.specs.Guest.{Good, guestIn};
-ghost use Rattle.guest_steps.specs.Calls.{left, messageOf, startOf};
+ghost use Rattle.guest_steps.specs.Calls.{leftBy, messageOf, startOf};
+use guest_messages::BUFFER_TOO_SHORT;
+use guest_messages::VALUE_NOT_LISTED;
 use guest_messages::Written;
 use guest_starts::begin;
+use guest_starts::begun_number;
 use guest_starts::ready;
+use guest_starts::refusal_number;
 use guest_starts::write_request;
 use guest_steps::Ask;
-use guest_steps::GuestAnswer;
 use guest_steps::MAX_ACK_PAYLOAD;
 use guest_steps::MAX_REQUEST;
 use guest_steps::NUMBERS;
 use guest_steps::Readiness;
-use guest_steps::Refusal;
-use guest_steps::written_answer;
 use messages::HEADER;
+use toeplitz::KEY_LENGTH_WRONG;
 
-// Starts a request of the guest whose parts are lent, on its page. Key and entries are looked at only where they are asked for.
+// Starts a request of the guest whose parts are lent, on its page, and answers by number: 2 while octets of it are owed, 0 once
+// all are written, or a refusal. Key and entries are looked at only where they are asked for.
 pub fn start<'a>(
     numbers: &'a mut [u64; NUMBERS],
     request: &'a mut [u8; MAX_REQUEST],
@@ -27,24 +30,24 @@ pub fn start<'a>(
     ask: Ask,
     key: &[u8],
     entries: &[u64],
-) -> GuestAnswer
+) -> u32
     requires { ⌜ Good (guestIn (now numbers) (now request) (now header) (now payload)) ⌝ }
-    ensures { λ r. ⌜ (left r (guestIn (now (numbers .exit)) (now (request .exit)) (now (header .entry)) (now (payload .entry))) (now (page .exit))
+    ensures { λ r. ⌜ (leftBy r (guestIn (now (numbers .exit)) (now (request .exit)) (now (header .entry)) (now (payload .entry))) (now (page .exit))
         ≡ startOf (messageOf ask (now (key .entry)) (now (entries .entry)))
         (guestIn (now (numbers .entry)) (now (request .entry)) (now (header .entry)) (now (payload .entry))) (now (page .entry)))
         × Good (guestIn (now (numbers .exit)) (now (request .exit)) (now (header .entry)) (now (payload .entry))) ⌝ }
 {
     let readiness = ready(&page[..], numbers);
     match readiness {
-        Readiness::Stopped(refusal) => GuestAnswer::Refused(refusal),
+        Readiness::Stopped(refusal) => refusal_number(refusal),
         Readiness::Room(room) => {
             let answer = write_request(ask, key, entries, &mut request[..]);
             match answer {
-                Written::Length(n) => written_answer(begin(n, numbers, request, room, page)),
-                Written::KeyLength => GuestAnswer::Refused(Refusal::KeyRefused),
-                Written::Value => GuestAnswer::Refused(Refusal::ValueRefused),
+                Written::Length(n) => begun_number(begin(n, numbers, request, room, page)),
+                Written::KeyLength => KEY_LENGTH_WRONG,
+                Written::Value => VALUE_NOT_LISTED,
                 // Every message has its place, so the writer never answers this.
-                Written::Buffer => GuestAnswer::Refused(Refusal::ValueRefused),
+                Written::Buffer => BUFFER_TOO_SHORT,
             }
         }
     }

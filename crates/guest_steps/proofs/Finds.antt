@@ -9,7 +9,7 @@ use Rattle.ring.specs.Writing.{fitting, sentOctets, sent}
 use Rattle.guest_messages.specs.Refusals.{notAnAck}
 use Rattle.guest_steps.specs.Refusals.{requestOutstanding}
 use Rattle.guest_steps.specs.Guest.{GuestState, idle, failed, guestIn, outgoing, withOutgoing, number, pending, requestOwed, toldOf}
-use Rattle.guest_steps.specs.Calls.{After, Found, unreadRequests, unreadAcks, found, wroteOn, readied, left}
+use Rattle.guest_steps.specs.Calls.{After, Found, unreadRequests, unreadAcks, found, wroteOn, readied, left, leftBy}
 use Rattle.guest_steps.specs.declared.GuestAnswer.{GuestAnswer}
 use Rattle.guest_steps.specs.Inner.{writtenAnswer}
 use Rattle.guest_steps.proofs.Stored.{stored-outgoing}
@@ -78,6 +78,11 @@ pub stored-writes : (numbers request header payload : List ℕ) → length numbe
 stored-writes numbers request header payload long page octets room n written prod r ew ep fits eo answer =
     rw (stored-outgoing numbers request header payload long written prod, ew, ep)
     (writes-on (guestIn numbers request header payload) page room n r octets fits (rw ep at eo) (rw ew at answer))
+
+-- the same by its number
+pub numbered : (owed : Bool) (r : ℕ) (g : GuestState) (octets : List ℕ) (a : After) → r ≡ cond owed requestOwed pending
+    → left (writtenAnswer owed) g octets ≡ a → leftBy r g octets ≡ a
+numbered owed r g octets a e same = rw (e, ← told-written owed) same
 
 -- the same answer by another name
 pub answered : (r x : GuestAnswer) (g : GuestState) (octets : List ℕ) (a : After) → r ≡ x → left x g octets ≡ a → left r g octets ≡ a

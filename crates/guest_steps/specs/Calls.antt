@@ -145,6 +145,9 @@ eventBy (refused k) g page = refusedWith k g page
 abbrev pub eventOf : GuestState → List ℕ → After
 eventOf g page = eventBy (found g page) g page
 
--- what a call answered and left
+-- what a call answered and left, by its answer or, where that has no values, by its number
 abbrev pub left : GuestAnswer → GuestState → List ℕ → After
 left r g page = record { answer = toldOf r; state = g; page = page }
+
+abbrev pub leftBy : ℕ → GuestState → List ℕ → After
+leftBy r g page = record { answer = number r; state = g; page = page }

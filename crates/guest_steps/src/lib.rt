@@ -72,10 +72,6 @@ pub enum Refusal {
     AckRefused,
     // A request is begun while one is outstanding.
     Outstanding,
-    // The key is not 40 octets.
-    KeyRefused,
-    // The flags are above 15, or the mapping's length is not 1, 2, 4, .. 128.
-    ValueRefused,
 }
 
 pub enum GuestAnswer {

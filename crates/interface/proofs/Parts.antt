@@ -6,9 +6,8 @@ use Rattle.page.specs.Page.{requestsAt, responsesAt, advanced, counted, put}
 use Rattle.ring.specs.Reading.{Incoming, receivedFrom}
 use Rattle.ring.specs.Writing.{fitting, sentOctets, sent}
 use Rattle.interface.specs.States.{HostState}
-use Rattle.interface.specs.Events.{ackWritten, ackOwed, answerNumber, withIncoming, withOutgoing}
+use Rattle.interface.specs.Events.{ackWritten, ackOwed, withIncoming, withOutgoing}
 use Rattle.interface.specs.Events.{responded, readIn, carriedIn, carriedOver, left}
-use Rattle.interface.specs.declared.EventAnswer.{EventAnswer}
 
 -- the state with what a request carried out gives
 abbrev pub over : HostState → Carried → HostState
@@ -32,10 +31,10 @@ unfolding readIn
 reads s page n i e = ap (withIncoming s) e
 
 -- ack octets sent, and the counts written
-pub responds : (s : HostState) (page : List ℕ) (room n : ℕ) (r : EventAnswer) (octets : List ℕ) → n ≡ fitting (s .outgoing) room
+pub responds : (s : HostState) (page : List ℕ) (room n : ℕ) (r : ℕ) (octets : List ℕ) → n ≡ fitting (s .outgoing) room
     → octets
     ≡ counted (put responsesAt page (s .outgoing .prod) (sentOctets (s .outgoing) n)) (s .incoming .cons) (advanced (s .outgoing .prod) n)
-    → answerNumber r ≡ cond (ltb (s .outgoing .written + n) (s .outgoing .length)) ackOwed ackWritten
+    → r ≡ cond (ltb (s .outgoing .written + n) (s .outgoing .length)) ackOwed ackWritten
     → left r (withOutgoing s (sent (s .outgoing) n)) octets ≡ responded s page room
 unfolding responded
 responds s page room n r octets fits written answer = rw (answer, written, fits) refl

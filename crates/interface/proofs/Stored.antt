@@ -8,8 +8,7 @@ use Rattle.ring.specs.Reading.{incomingOf}
 use Rattle.page.specs.Page.{responsesAt, advanced, counted, put}
 use Rattle.ring.specs.Writing.{outgoingOf, fitting, sentOctets}
 use Rattle.interface.specs.States.{outgoingIn, interfaceIn}
-use Rattle.interface.specs.Events.{ackWritten, ackOwed, answerNumber, withIncoming, withOutgoing, responded, left}
-use Rattle.interface.specs.declared.EventAnswer.{EventAnswer}
+use Rattle.interface.specs.Events.{ackWritten, ackOwed, withIncoming, withOutgoing, responded, left}
 use Rattle.interface.proofs.Parts.{over, responds}
 
 module _ (numbers header payload ack key entries : List ℕ) (long : length numbers ≡ 8) where
@@ -43,10 +42,10 @@ module _ (numbers header payload ack key entries : List ℕ) (long : length numb
       (λ a b c d e f g h. refl) numbers long
 
   -- octets of the ack sent and counted there, and the counts written
-  pub stored-responds : (page octets : List ℕ) (room n written prod : ℕ) (r : EventAnswer)
+  pub stored-responds : (page octets : List ℕ) (room n written prod : ℕ) (r : ℕ)
       → written ≡ getD numbers 6 0 + n → prod ≡ advanced (getD numbers 7 0) n → n ≡ fitting (outgoingIn numbers ack) room
       → octets ≡ counted (put responsesAt page (getD numbers 7 0) (sentOctets (outgoingIn numbers ack) n)) (getD numbers 4 0) prod
-      → answerNumber r ≡ cond (ltb written (getD numbers 5 0)) ackOwed ackWritten
+      → r ≡ cond (ltb written (getD numbers 5 0)) ackOwed ackWritten
       → left r (interfaceIn (set (set numbers 6 written) 7 prod) header payload ack key entries) octets
       ≡ responded (interfaceIn numbers header payload ack key entries) page room
   stored-responds page octets room n written prod r ew ep fits eo answer =

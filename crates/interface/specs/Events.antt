@@ -11,8 +11,6 @@ use Rattle.ring.specs.Writing.{fitting, sentOctets, sent}
 use Rattle.ring.specs.Reading.{Incoming}
 use Rattle.ring.specs.Writing.{Outgoing}
 use Rattle.interface.specs.States.{HostState}
-use Rattle.interface.specs.declared.EventAnswer.{EventAnswer}
-use Rattle.interface.specs.declared.EventAnswer.the-variants.{Waiting, Written, Owed, PageLength, RequestCount, ResponseCount}
 
 -- the answers to an event by their numbers: no whole message yet, ack wholly written, ack octets still owed
 abbrev pub waiting : ℕ
@@ -106,15 +104,6 @@ eventOf s page =
     (refusedWith requestsWrong s page))
     (refusedWith pageWrong s page)
 
--- the number that each case of the enum stands for
-abbrev pub answerNumber : EventAnswer → ℕ
-answerNumber Waiting = waiting
-answerNumber Written = ackWritten
-answerNumber Owed = ackOwed
-answerNumber PageLength = pageWrong
-answerNumber RequestCount = requestsWrong
-answerNumber ResponseCount = responsesWrong
-
--- what a call answered and left
-abbrev pub left : EventAnswer → HostState → List ℕ → After
-left r s page = record { answer = answerNumber r; state = s; page = page }
+-- what a call answered, by its number, and left
+abbrev pub left : ℕ → HostState → List ℕ → After
+left r s page = record { answer = r; state = s; page = page }

@@ -4,10 +4,9 @@
 use Rattle.octets.specs.Prelude.{_≡_, List, ℕ}
 use Rattle.interface.specs.States.{interfaceIn}
 use Rattle.interface.specs.Events.{responded, readIn, left}
-use Rattle.interface.specs.declared.EventAnswer.{EventAnswer}
 
 -- as many octets of the ack written as fit into `room` octets, and both counts behind them
-abbrev pub Responds : List ℕ → List ℕ → List ℕ → ℕ → EventAnswer → List ℕ → List ℕ → Type 0
+abbrev pub Responds : List ℕ → List ℕ → List ℕ → ℕ → ℕ → List ℕ → List ℕ → Type 0
 Responds numbers ack page room r numbers′ page′ =
     (header payload key entries : List ℕ)
     → left r (interfaceIn numbers′ header payload ack key entries) page′

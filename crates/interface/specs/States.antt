@@ -1,7 +1,7 @@
 -- The state of an interface: what setup answers, what holds of every state from then on, and the packet question.
 -- Assumes nothing.
 use Rattle.octets.specs.Prelude.{_≡_, List, cond, _&&_, ℕ, _<_, getD, leb}
-use Rattle.octets.specs.Outcome.{Outcome, value, refused, done}
+use Rattle.octets.specs.Outcome.{Outcome, value, refused}
 use Rattle.messages.specs.Wire.{maxPayload}
 use Rattle.messages.specs.Requests.{maxAck}
 use Rattle.messages.specs.Settings.{Settings, maxQueues, tableOf, settingsOf, settingsAtSetup, Good as GoodSettings}
@@ -9,8 +9,6 @@ use Rattle.steering.specs.Steering.{Choice, steered}
 use Rattle.ring.specs.Reading.{Incoming, incomingOf, incomingAtSetup, GoodIncoming}
 use Rattle.ring.specs.Writing.{Outgoing, outgoingOf, outgoingAtSetup, owed, GoodOutgoing}
 use Rattle.interface.specs.declared.Interface.{Interface}
-use Rattle.interface.specs.declared.SetUpAnswer.{SetUpAnswer}
-use Rattle.interface.specs.declared.SetUpAnswer.the-variants.{Made, Queues}
 
 -- refusal 6: setup with 0 or more than 64 queues
 abbrev pub queuesWrong : ℕ
@@ -54,11 +52,6 @@ interfaceAtSetup queues =
 -- what setup answers
 unfoldable pub setUpOutcome : ℕ → Outcome HostState
 setUpOutcome queues = cond (leb 1 queues && leb queues maxQueues) (value (interfaceAtSetup queues)) (refused queuesWrong)
-
--- the number that each answer to a setup stands for
-abbrev pub setUpNumber : SetUpAnswer → ℕ
-setUpNumber Made = done
-setUpNumber Queues = queuesWrong
 
 -- a good state: what holds of the state of an interface from setup on
 pub record Good (s : HostState) : Type 0 where

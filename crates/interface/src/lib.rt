@@ -10,6 +10,18 @@ pub use stages::read_request;
 pub use stages::respond;
 use toeplitz::KEY_LENGTH;
 
+// What a setup answers, by number: it is done, or the number of queues is 0 or more than 64.
+pub const SET_UP: u32 = 0;
+
+pub const QUEUES_WRONG: u32 = 6;
+
+// What an event answers that is not refused, by number: no whole message yet, the ack is wholly written, octets of it are owed.
+pub const WAITING: u32 = 0;
+
+pub const WRITTEN: u32 = 1;
+
+pub const OWED: u32 = 2;
+
 // The numbers of an interface stand in one array, so that a new one moves no signature. Their places: the queues in
 // operation, the flags and the number of mapping entries; the octets taken of the present request, and the own req_cons;
 // the octets of the ack, how many of them are written, and the own rsp_prod.
@@ -41,25 +53,4 @@ pub struct Interface {
     pub ack: [u8; MAX_ACK],
     pub key: [u8; KEY_LENGTH],
     pub entries: [u8; MAX_ENTRIES],
-}
-
-pub enum SetUpAnswer {
-    Made,
-    // 0 queues, or more than 64.
-    Queues,
-}
-
-pub enum EventAnswer {
-    // No whole message yet.
-    Waiting,
-    // The ack is wholly written.
-    Written,
-    // Octets of the ack are still owed.
-    Owed,
-    // The page is not 4,096 octets.
-    PageLength,
-    // req_prod is more than 1,024 ahead of the own req_cons.
-    RequestCount,
-    // The own rsp_prod is more than 1,024 ahead of rsp_cons.
-    ResponseCount,
 }

@@ -11,13 +11,14 @@ ghost use Rattle.interface.specs.Inner.{Responds, Reads};
 use crate::ACK_LENGTH;
 use crate::ACK_WRITTEN;
 use crate::ENTRY_COUNT;
-use crate::EventAnswer;
 use crate::FLAGS;
 use crate::NUMBERS;
+use crate::OWED;
 use crate::OWN_REQ_CONS;
 use crate::OWN_RSP_PROD;
 use crate::QUEUES;
 use crate::TAKEN;
+use crate::WRITTEN;
 use messages::HEADER;
 use messages::MAX_ACK;
 use messages::MAX_ENTRIES;
@@ -91,12 +92,7 @@ pub fn carry_over(
 }
 
 // Writes as much of the ack as fits into `room` octets, and both counts.
-pub fn respond(
-    numbers: &mut [u64; NUMBERS],
-    ack: &[u8; MAX_ACK],
-    room: u32,
-    page: &mut [u8],
-) -> EventAnswer
+pub fn respond(numbers: &mut [u64; NUMBERS], ack: &[u8; MAX_ACK], room: u32, page: &mut [u8]) -> u32
     requires { ⌜ (length (now page) ≡ pageSize) × (room ≤ areaSize) × (getD (now numbers) 4 0 < 2 ^ 32) ⌝ }
     requires { ⌜ GoodOutgoing maxAck (outgoingIn (now numbers) (now ack)) ⌝ }
     ensures { λ r. ⌜ Responds (now (numbers .entry)) (now (ack .entry)) (now (page .entry)) room r (now (numbers .exit)) (now (page .exit)) ⌝ }
@@ -120,9 +116,5 @@ pub fn respond(
     held[ACK_WRITTEN] = written;
     held[OWN_RSP_PROD] = rsp_prod as u64;
     page::write_counts(page, REQ_CONS, req_cons, RSP_PROD, rsp_prod);
-    if written < size {
-        EventAnswer::Owed
-    } else {
-        EventAnswer::Written
-    }
+    if written < size { OWED } else { WRITTEN }
 }

@@ -10,6 +10,14 @@ pub use counts::unread_by_other;
 pub use counts::unread_here;
 pub use counts::write_counts;
 
+// The refusals of a page, by document 01's numbers: its length, and a count of the other end's that is too far from the own one.
+// Both ends give them.
+pub const PAGE_WRONG: u32 = 3;
+
+pub const REQUESTS_WRONG: u32 = 4;
+
+pub const RESPONSES_WRONG: u32 = 5;
+
 // Octets of the page, and of each area.
 pub const PAGE: usize = 4096;
 

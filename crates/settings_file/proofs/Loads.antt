@@ -109,6 +109,15 @@ set-up-good q = by (leb 1 q && leb q maxQueues) refl
     by false e = good-at-setup 1 (omega arith) (omega arith)
 
 -- the queue count of a file, and the messages behind it
+-- a setup that is not done is refused
+pub set-up-told : (q : ℕ) → (numberOf (setUpOutcome q) ≡ done → ⊥) → queuesWrong ≡ numberOf (setUpOutcome q)
+unfolding setUpOutcome
+set-up-told q other = by (leb 1 q && leb q maxQueues) other
+  where
+    by : (t : Bool) → (numberOf (outcome q t) ≡ done → ⊥) → queuesWrong ≡ numberOf (outcome q t)
+    by true other = absurd (other refl)
+    by false other = refl
+
 pub load-refused : (file : List ℕ) → queuesWrong ≡ numberOf (setUpOutcome (getD file 0 0)) → refused queuesWrong ≡ settingsOutcome file
 unfolding settingsOutcome setUpOutcome
 load-refused [] e = refl

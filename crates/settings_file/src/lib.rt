@@ -4,14 +4,14 @@ ghost use Rattle.octets.specs.Outcome.{numberOf};
 ghost use Rattle.messages.specs.Wire.{maxPayload};
 ghost use Rattle.messages.specs.Settings.{Good};
 ghost use Rattle.messages.specs.Requests.{carriedOut};
-ghost use Rattle.interface.specs.States.{setUpOutcome, setUpNumber};
+ghost use Rattle.interface.specs.States.{setUpOutcome};
 ghost use Rattle.settings_file.specs.Loading.{settingsFrom, settingsOutcome, outcomeOf, settingsHeld};
 ghost use Rattle.settings_file.specs.Inner.{settingsSetUp, LeavesAcked, CarriesFirst, Keeps};
 use interface::ENTRY_COUNT;
 use interface::FLAGS;
 use interface::NUMBERS;
 use interface::QUEUES;
-use interface::SetUpAnswer;
+use interface::SET_UP;
 use messages::HEADER;
 use messages::MAX_ACK;
 use messages::MAX_ENTRIES;
@@ -48,7 +48,7 @@ pub struct Loaded {
 
 // What setup comes to. Where it is refused, the settings are a placeholder.
 struct SetUp {
-    pub answer: SetUpAnswer,
+    pub answer: u32,
     pub settings: Held,
 }
 
@@ -72,18 +72,18 @@ pub fn load_settings(file: &[u8]) -> Loaded
     let set_up = set_up(queue_count(file));
     let answer = set_up.answer;
     let settings = set_up.settings;
-    match answer {
-        SetUpAnswer::Made => carry_out_all(settings, &file[1..]),
-        SetUpAnswer::Queues => Loaded {
+    if answer != SET_UP {
+        return Loaded {
             answer: Answer::Refused(QUEUES_WRONG),
             settings,
-        },
+        };
     }
+    carry_out_all(settings, &file[1..])
 }
 
 // The settings of an interface that is set up with this many queues, as the library does it.
 fn set_up(queues: u32) -> SetUp
-    ensures { λ r. ⌜ (setUpNumber (r .answer) ≡ numberOf (setUpOutcome queues))
+    ensures { λ r. ⌜ (r .answer ≡ numberOf (setUpOutcome queues))
         × (settingsHeld (r .settings) ≡ settingsSetUp queues) ⌝ }
 {
     // The placeholder, one queue and one entry, which stays where the number is refused.

@@ -27,7 +27,7 @@ pub extern "C" fn zwerfen_guest_start_get_flags(guest: &mut Guest, page: &mut [u
         (now (page .exit))
         × Good (stateOf (now (guest .exit))) ⌝ }
 {
-    on_parts::start_get_flags(
+    guest_calls::start_get_flags(
         &mut guest.numbers,
         &mut guest.request,
         &mut guest.header,
@@ -48,7 +48,7 @@ pub extern "C" fn zwerfen_guest_start_set_flags(
         (now (page .exit))
         × Good (stateOf (now (guest .exit))) ⌝ }
 {
-    on_parts::start_set_flags(
+    guest_calls::start_set_flags(
         &mut guest.numbers,
         &mut guest.request,
         &mut guest.header,
@@ -67,7 +67,7 @@ pub extern "C" fn zwerfen_guest_start_set_key(guest: &mut Guest, page: &mut [u8]
         (now (page .exit))
         × Good (stateOf (now (guest .exit))) ⌝ }
 {
-    on_parts::start_set_key(
+    guest_calls::start_set_key(
         &mut guest.numbers,
         &mut guest.request,
         &mut guest.header,
@@ -90,7 +90,7 @@ pub extern "C" fn zwerfen_guest_start_set_mapping(
         (now (page .exit))
         × Good (stateOf (now (guest .exit))) ⌝ }
 {
-    on_parts::start_set_mapping(
+    guest_calls::start_set_mapping(
         &mut guest.numbers,
         &mut guest.request,
         &mut guest.header,
@@ -116,7 +116,7 @@ pub extern "C" fn zwerfen_guest_event(
     ensures { λ _.
         ⌜ now (flags .exit) ≡ flagsOfTold (eventOf (stateOf (now (guest .entry))) (now (page .entry)) .answer) (now (flags .entry)) ⌝ }
 {
-    on_parts::guest_event(
+    guest_calls::guest_event(
         &mut guest.numbers,
         &mut guest.request,
         &mut guest.header,

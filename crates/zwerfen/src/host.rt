@@ -2,8 +2,8 @@
 ghost use Rattle.octets.specs.Prelude.{_≡_};
 ghost use Rattle.octets.specs.Outcome.{numberOf, placed, itself};
 ghost use Rattle.interface.specs.States.{Good, stateOf, setUpOutcome, steeredBy};
-ghost use Rattle.interface.specs.Events.{eventOf};
-ghost use Rattle.by_number.specs.Answers.{left, Steers};
+ghost use Rattle.interface.specs.Events.{left, eventOf};
+ghost use Rattle.by_number.specs.Answers.{Steers};
 use interface::Interface;
 
 // Sets up the interface with this many queues in operation, 1 to 64.
@@ -12,7 +12,7 @@ pub extern "C" fn zwerfen_set_up(interface: &mut Interface, queues: u32) -> u32
     ensures { λ r. ⌜ (r ≡ numberOf (setUpOutcome queues))
         × (stateOf (now (interface .exit)) ≡ placed itself (setUpOutcome queues) (stateOf (now (interface .entry)))) ⌝ }
 {
-    on_parts::set_up(
+    backend::set_up(
         &mut interface.numbers,
         &mut interface.header,
         &mut interface.payload,
@@ -31,7 +31,7 @@ pub extern "C" fn zwerfen_event(interface: &mut Interface, page: &mut [u8]) -> u
         ≡ eventOf (stateOf (now (interface .entry))) (now (page .entry)))
         × Good (stateOf (now (interface .exit))) ⌝ }
 {
-    on_parts::event(
+    backend::event(
         &mut interface.numbers,
         &mut interface.header,
         &mut interface.payload,

@@ -3,10 +3,10 @@
 use Rattle.octets.specs.Prelude.{_≡_, sym, ap, _∙_, List, ℕ, _-_, _<_, arith, length, getD, drop, length-drop, take-all, needs}
 use Rattle.octets.specs.Outcome.{numberOf}
 use Rattle.messages.specs.Settings.{Settings, Good}
-use Rattle.interface.specs.States.{setUpOutcome, setUpNumber}
+use Rattle.interface.specs.States.{setUpOutcome}
 use Rattle.settings_file.specs.Loading.{settingsFrom, settingsOutcome, settingsHeld}
 use Rattle.settings_file.specs.Inner.{settingsSetUp}
-use Rattle.settings_file.proofs.Loads.{set-up-good, load-refused, load-done}
+use Rattle.settings_file.proofs.Loads.{set-up-good, set-up-told, load-refused, load-done}
 use Rattle.settings_file.proofs.load_settings.Statement.{statement}
 use Rattle.settings_file.proofs.load_settings.Tie as tie
 
@@ -21,7 +21,7 @@ module _ (d : tie.After-set-up) where
   count : d .before .queue-count .result ≡ getD file-of 0 0
   count = d .before .queue-count .ensures
 
-  answered : setUpNumber (d .set-up .result .answer) ≡ numberOf (setUpOutcome (getD file-of 0 0))
+  answered : d .set-up .result .answer ≡ numberOf (setUpOutcome (getD file-of 0 0))
   answered = d .set-up .ensures .0 ∙ ap (λ (q : ℕ). numberOf (setUpOutcome q)) count
 
   left : settings-of ≡ settingsSetUp (getD file-of 0 0)
@@ -31,11 +31,11 @@ module _ (d : tie.After-set-up) where
   good = rw left (set-up-good (getD file-of 0 0))
 
 -- and passed
-done : (c : tie.After-enum-told) → let d = c .before .before .before in
+done : (c : tie.Else1) → let d = c .before .before in
     (0 < length (file-of d)) × (settingsFrom (settings-of d) (drop 1 (file-of d)) ≡ settingsOutcome (file-of d))
 done c =
-    let d = c .before .before .before in
-    rw (left d) (load-done (file-of d) (sym (ap setUpNumber (c .enum-told .given .1)) ∙ answered d))
+    let d = c .before .before in
+    rw (left d) (load-done (file-of d) (sym (c .if1 .left) ∙ answered d))
 
 sub-carry-out-all : tie.Need-sub-carry-out-all
 sub-carry-out-all c = let some = done c .0 in omega arith
@@ -44,21 +44,21 @@ part-carry-out-all-start : tie.Need-part-carry-out-all-start
 part-carry-out-all-start c = let some = done c .0 in omega arith
 
 carry-out-all-requires : tie.Need-carry-out-all-requires
-carry-out-all-requires c κs = good (c .before .before .before .before)
+carry-out-all-requires c κs = good (c .before .before .before)
 
 returns : tie.Need-returns
 returns c =
-    let passed = c .before .before in
-    let d = passed .before .before .before in
-    let rest = take-all (length (file-of d) - 1) (drop 1 (file-of d)) (omega (arith, length-drop 1 (file-of d))) in
-    (c .carry-out-all .ensures .0 ∙ ap (settingsFrom (settings-of d)) rest ∙ done passed .1, c .carry-out-all .ensures .1)
+    let d = c .before .before in
+    (load-refused (file-of d) (set-up-told _ (λ e. c .if1 .taken (answered d ∙ e))), good d)
 
 returns-2 : tie.Need-returns-2
 returns-2 c =
-    let d = c .before .before .before in
-    (load-refused (file-of d) (sym (ap setUpNumber (c .enum-told2 .given .1)) ∙ answered d), good d)
+    let passed = c .before .before in
+    let d = passed .before .before in
+    let rest = take-all (length (file-of d) - 1) (drop 1 (file-of d)) (omega (arith, length-drop 1 (file-of d))) in
+    (c .carry-out-all .ensures .0 ∙ ap (settingsFrom (settings-of d)) rest ∙ done passed .1, c .carry-out-all .ensures .1)
 
 pub load-settings-spec : {M : Type 1} → statement M
 load-settings-spec =
-    tie.close (tie.spec (λ c κs. search needs) (λ c κs. search needs) (λ c. search needs) sub-carry-out-all part-carry-out-all-start
-    (λ c. search needs) carry-out-all-requires (λ c. search needs) returns returns-2)
+    tie.close (tie.spec (λ c κs. search needs) (λ c κs. search needs) returns sub-carry-out-all part-carry-out-all-start
+    (λ c. search needs) carry-out-all-requires returns-2)

@@ -2,20 +2,17 @@
 -- Assumes nothing.
 use Rattle.octets.specs.Prelude.{_≡_, refl, sym, ap, _∙_, List, ℕ, _≤_, arith, length, length-append, length-drop, needs}
 use Rattle.octets.specs.Outcome.{Outcome, value, refused}
-use Rattle.guest_messages.specs.Refusals.{bufferTooShort}
+use Rattle.guest_messages.specs.Refusals.{bufferTooShort, valueNotListed}
 use Rattle.guest_messages.specs.declared.Written.{Written}
 use Rattle.guest_messages.specs.declared.Written.the-variants.{Length}
 use Rattle.guest_messages.specs.Writer.{writtenOutcomeOf}
-use Rattle.guest_steps.specs.Guest.{GuestState, Good, maxRequest, guestIn, refusalNumber}
-use Rattle.guest_steps.specs.Calls.{found, messageOf, readied, startOf, left}
+use Rattle.toeplitz.specs.Refusals.{keyLengthWrong}
+use Rattle.guest_steps.specs.Guest.{GuestState, Good, maxRequest, guestIn}
+use Rattle.guest_steps.specs.Calls.{found, messageOf, readied, startOf, leftBy}
 use Rattle.guest_steps.specs.Inner.{readinessOf}
-use Rattle.guest_steps.specs.declared.GuestAnswer.{GuestAnswer}
-use Rattle.guest_steps.specs.declared.GuestAnswer.the-variants.{Refused}
-use Rattle.guest_steps.specs.declared.Refusal.{Refusal}
-use Rattle.guest_steps.specs.declared.Refusal.the-variants.{KeyRefused, ValueRefused}
 use Rattle.guest_steps.specs.declared.Readiness.{Readiness}
 use Rattle.frontend.proofs.Goodness.{asked-fits, starts-good}
-use Rattle.guest_steps.proofs.Finds.{answered}
+use Rattle.guest_steps.proofs.Finds.{numbered}
 use Rattle.frontend.proofs.Starts.{Wrote, wrote, refuses, has-place, asks, room-found, starts-stopped, starts-refused, starts-with}
 use Rattle.frontend.proofs.starting.start.Statement.{statement}
 use Rattle.frontend.proofs.starting.start.Tie as tie
@@ -32,8 +29,8 @@ module _ (s : tie.Start) where
   message = messageOf (s .args .ask) (s .args .key .now) (s .args .entries .now)
 
   -- what a start gives is good
-  concludes : (h : GuestState) (octets : List ℕ) (r : GuestAnswer) → left r h octets ≡ startOf message lent page
-      → (left r h octets ≡ startOf message lent page) × Good h
+  concludes : (h : GuestState) (octets : List ℕ) (r : ℕ) → leftBy r h octets ≡ startOf message lent page
+      → (leftBy r h octets ≡ startOf message lent page) × Good h
   concludes h octets r e =
       starts-good message lent h page octets r
       (asked-fits message (asks (s .args .ask) (s .args .key .now) (s .args .entries .now))) (s .pre) e
@@ -64,18 +61,18 @@ module _ (d : tie.After-write-request) where
   there = finds ready _ (roomy .readiness2 .given .1)
 
   -- it refuses the request
-  refused-by : (w : Written) → d .write-request .result ≡ w → (k : Refusal) → (refusalNumber k ≡ bufferTooShort → ⊥)
-      → writtenOutcomeOf w ≡ refused (refusalNumber k)
-      → (left (Refused k)
+  refused-by : (w : Written) → d .write-request .result ≡ w → (k : ℕ) → (k ≡ bufferTooShort → ⊥)
+      → writtenOutcomeOf w ≡ refused k
+      → (leftBy k
       (guestIn (from .args .numbers .now) (d .write-request .last .1 .1 .1 .0) (from .args .header .now) (from .args .payload .now))
       (page from) ≡ startOf (message from) (lent from) (page from))
       × Good (guestIn (from .args .numbers .now) (d .write-request .last .1 .1 .1 .0) (from .args .header .now) (from .args .payload .now))
   refused-by w e k other r =
       let a = from .args in
-      let both = refuses (message from) (a .request .now) _ (d .write-request .result) (refusalNumber k) other (ap writtenOutcomeOf e ∙ r)
+      let both = refuses (message from) (a .request .now) _ (d .write-request .result) k other (ap writtenOutcomeOf e ∙ r)
       (d .write-request .ensures) in
-      concludes from _ (page from) (Refused k)
-      (ap (λ (b : List ℕ). left (Refused k) (guestIn (a .numbers .now) b (a .header .now) (a .payload .now)) (page from)) (both .1)
+      concludes from _ (page from) k
+      (ap (λ (b : List ℕ). leftBy k (guestIn (a .numbers .now) b (a .header .now) (a .payload .now)) (page from)) (both .1)
       ∙ starts-refused (message from) (lent from) (page from) room there k (both .0))
 
   -- or has written it
@@ -85,10 +82,11 @@ module _ (d : tie.After-write-request) where
 
 returns : tie.Need-returns
 returns c =
-    let k = c .before .readiness .given in
-    let d = c .before .before .before in
+    let stopped = c .before .before in
+    let d = stopped .before .before in
     let s = start d in
-    concludes s (lent s) (page s) (Refused (k .0 .0)) (starts-stopped (message s) (lent s) (page s) (k .0 .0) (finds d _ (k .1)))
+    concludes s (lent s) (page s) _
+    (starts-stopped (message s) (lent s) (page s) _ (ap refused (c .refusal-number .ensures) ∙ finds d _ (stopped .readiness .given .1)))
 
 begin-requires : tie.Need-begin-requires
 begin-requires c κs =
@@ -111,16 +109,15 @@ returns-2 c =
     let d = answer .before .before in
     let s = from d in
     let a = s .args in
-    let r : GuestAnswer = c .written-answer .result in
-    concludes s _ _ r
-    (answered r _ _ _ _ (c .written-answer .ensures) (done .begin .ensures (a .header .now) (a .payload .now)
+    concludes s _ _ (c .begun-number .result)
+    (numbered (done .begin .result) _ _ _ _ (c .begun-number .ensures) (done .begin .ensures (a .header .now) (a .payload .now)
     ∙ starts-with (message s) (lent s) (page s) (room d) (there d) _ _ (wrote-it d _ (answer .answer .given .1))))
 
 returns-3 : tie.Need-returns-3
-returns-3 c = refused-by (c .before .before) _ (c .enum-told .given .1) KeyRefused (λ e. omega (arith, e)) refl
+returns-3 c = refused-by (c .before .before) _ (c .enum-told .given .1) keyLengthWrong (λ e. omega (arith, e)) refl
 
 returns-4 : tie.Need-returns-4
-returns-4 c = refused-by (c .before .before) _ (c .enum-told2 .given .1) ValueRefused (λ e. omega (arith, e)) refl
+returns-4 c = refused-by (c .before .before) _ (c .enum-told2 .given .1) valueNotListed (λ e. omega (arith, e)) refl
 
 returns-5 : tie.Need-returns-5
 returns-5 c =
@@ -132,6 +129,7 @@ returns-5 c =
 
 pub start-spec : {M : Type 1} → statement M
 start-spec =
-    tie.close (tie.spec (λ c κs. search needs) (λ c. search needs) (λ c. search needs) (λ c κs. search needs) (λ c. search needs)
-    begin-requires (λ c κs. search needs) (λ c. search needs) (λ c. search needs) (λ c. search needs) (λ c. search needs) returns
-    (λ c. search needs) returns-2 (λ c. search needs) returns-3 (λ c. search needs) returns-4 (λ c. search needs) returns-5)
+    tie.close (tie.spec (λ c κs. search needs) (λ c. search needs) (λ c κs. search needs) (λ c. search needs) (λ c κs. search needs)
+    (λ c. search needs) begin-requires (λ c κs. search needs) (λ c. search needs) (λ c. search needs) (λ c. search needs)
+    (λ c. search needs) returns (λ c. search needs) returns-2 (λ c. search needs) returns-3 (λ c. search needs) returns-4
+    (λ c. search needs) returns-5)

@@ -4,10 +4,8 @@
 use Rattle.octets.specs.Prelude.{_≡_, refl, ap, _∙_, List, cond, ℕ, _+_, arith, length, getD, set, length-set, ltb, needs, lt-ltb}
 use Rattle.octets.specs.Prelude.{le-ltb}
 use Rattle.page.specs.Page.{counted as writtenCounts}
-use Rattle.interface.specs.Events.{ackWritten, ackOwed, answerNumber}
+use Rattle.interface.specs.Events.{ackWritten, ackOwed}
 use Rattle.interface.specs.Inner.{Responds}
-use Rattle.interface.specs.declared.EventAnswer.{EventAnswer}
-use Rattle.interface.specs.declared.EventAnswer.the-variants.{Written, Owed}
 use Rattle.interface.proofs.Stored.{stored-responds}
 use Rattle.interface.proofs.stages.respond.Statement.{statement}
 use Rattle.interface.proofs.stages.respond.Tie as tie
@@ -40,8 +38,8 @@ module _ (d : tie.After-write-counts) where
   from = start lending
 
   -- by whether octets are still owed
-  concludes : (r : EventAnswer)
-      → answerNumber r
+  concludes : (r : ℕ)
+      → r
       ≡ cond (ltb (getD (from .args .numbers .now) 6 0 + sending .send .result) (getD (from .args .numbers .now) 5 0)) ackOwed ackWritten
       → Responds (from .args .numbers .now) (from .args .ack .now) (from .args .page .now) (from .args .room) r
       (set (set (from .args .numbers .now) 6 (getD (from .args .numbers .now) 6 0 + sending .send .result)) 7 (counted .wrapping-add-u32 .result))
@@ -56,11 +54,11 @@ module _ (d : tie.After-write-counts) where
 
 returns : tie.Need-returns
 returns c =
-    concludes (c .before .before .before) Owed (rw (lt-ltb _ _ (c .if1 .taken)) refl)
+    concludes (c .before .before .before) ackOwed (rw (lt-ltb _ _ (c .if1 .taken)) refl)
 
 returns-2 : tie.Need-returns-2
 returns-2 c =
-    concludes (c .before .before .before) Written (rw (le-ltb _ _ (c .if1 .left)) refl)
+    concludes (c .before .before .before) ackWritten (rw (le-ltb _ _ (c .if1 .left)) refl)
 
 pub respond-spec : {M : Type 1} → statement M
 respond-spec =

@@ -1,13 +1,13 @@
--- `zwerfen::zwerfen_guest_event` meets its contract: the guest is lent in parts to `on_parts::guest_event` (`Exports.antt` of the
+-- `zwerfen::zwerfen_guest_event` meets its contract: the guest is lent in parts to `guest_calls::guest_event` (`Exports.antt` of the
 -- crate `lending`). All that the proof knows of that function is that it meets its contract.
 -- Assumes nothing.
 use Rattle.octets.specs.Prelude.{refl}
 use mir.Syntax.{named, tyInt, w32}
 use contract.Running.{givenOf}
 use denote.Builtin.{u8, u32}
-use Rattle.on_parts.proofs.guest_event as on-parts
-use Rattle.on_parts.proofs.guest_event.Symbol as on-parts-def
-use Rattle.on_parts.proofs.guest_event.Met as on-parts-thm
+use Rattle.guest_calls.proofs.guest_event as call
+use Rattle.guest_calls.proofs.guest_event.Symbol as call-def
+use Rattle.guest_calls.proofs.guest_event.Met as call-thm
 use Rattle.lending.proofs.Spelt.{a-number, a-mut, a-mut-slice}
 use Rattle.lending.proofs.Structs.{rowBy, partsOf, valuesOf, opens}
 use Rattle.lending.proofs.Exports.{tail, passing, exported, concluded}
@@ -20,11 +20,11 @@ use Rattle.zwerfen.proofs.driver.zwerfen_guest_event.Code as code
 pub zwerfen-guest-event-spec : {M : Type 1} → stated.statement M
 unfolding code.routine
 zwerfen-guest-event-spec 𝓤 H 𝓜 𝓖 𝓡 =
-    concluded 𝓤 H 𝓜 𝓖 𝓡 f.signature on-parts.signature (f.spec 𝓤 H) (on-parts.spec 𝓤 H) code.env #f code.function
+    concluded 𝓤 H 𝓜 𝓖 𝓡 f.signature call.signature (f.spec 𝓤 H) (call.spec 𝓤 H) code.env #f code.function
     (code.unfolded 𝓤 H 𝓜 𝓡)
-    on-parts-def.name on-parts-def.routine code.calls-on-parts·guest-event (on-parts-thm.met 𝓤 H 𝓜 𝓖 𝓡) (λ 𝓣 known.
+    call-def.name call-def.routine code.calls-guest-calls·guest-event (call-thm.met 𝓤 H 𝓜 𝓖 𝓡) (λ 𝓣 known.
     exported (rowBy guest) (partsOf guest) 3 (tail (f.signature .params)) (f.ended .kept .1) (f.signature .result)
-    𝓤 H (𝓖 .A) (givenOf 𝓤 H 𝓜 𝓖) 𝓣 code.function on-parts-def.name
+    𝓤 H (𝓖 .A) (givenOf 𝓤 H 𝓜 𝓖) 𝓣 code.function call-def.name
     (λ κs. (a-mut-slice (named 1) (κs .1 .0) u8, (a-mut (named 2) (κs .1 .1 .0) u32, (a-mut (named 3) (κs .1 .1 .1 .0) u32, tt))))
     (opens guest 𝓤 H (𝓖 .A) (givenOf 𝓤 H 𝓜 𝓖)) (f.clauses 𝓤 H (𝓖 .A) (𝓜 .mem) (𝓡 .run))
     (tyInt w32) (λ κs. a-number w32) (λ κs. refl) (λ κs. refl) (λ κs x b o bs. (refl, refl))

@@ -1,13 +1,13 @@
--- `zwerfen::zwerfen_guest_start_get_flags` meets its contract: the guest is lent in parts to `on_parts::start_get_flags` (`Exports.antt` of the
+-- `zwerfen::zwerfen_guest_start_get_flags` meets its contract: the guest is lent in parts to `guest_calls::start_get_flags` (`Exports.antt` of the
 -- crate `lending`). All that the proof knows of that function is that it meets its contract.
 -- Assumes nothing.
 use Rattle.octets.specs.Prelude.{refl}
 use mir.Syntax.{named, tyInt, w32}
 use contract.Running.{givenOf}
 use denote.Builtin.{u8}
-use Rattle.on_parts.proofs.start_get_flags as on-parts
-use Rattle.on_parts.proofs.start_get_flags.Symbol as on-parts-def
-use Rattle.on_parts.proofs.start_get_flags.Met as on-parts-thm
+use Rattle.guest_calls.proofs.start_get_flags as call
+use Rattle.guest_calls.proofs.start_get_flags.Symbol as call-def
+use Rattle.guest_calls.proofs.start_get_flags.Met as call-thm
 use Rattle.lending.proofs.Spelt.{a-number, a-mut-slice}
 use Rattle.lending.proofs.Structs.{rowBy, partsOf, valuesOf, opens}
 use Rattle.lending.proofs.Exports.{tail, passing, exported, concluded}
@@ -20,11 +20,11 @@ use Rattle.zwerfen.proofs.driver.zwerfen_guest_start_get_flags.Code as 
 pub zwerfen-guest-start-get-flags-spec : {M : Type 1} → stated.statement M
 unfolding code.routine
 zwerfen-guest-start-get-flags-spec 𝓤 H 𝓜 𝓖 𝓡 =
-    concluded 𝓤 H 𝓜 𝓖 𝓡 f.signature on-parts.signature (f.spec 𝓤 H) (on-parts.spec 𝓤 H) code.env #f code.function
+    concluded 𝓤 H 𝓜 𝓖 𝓡 f.signature call.signature (f.spec 𝓤 H) (call.spec 𝓤 H) code.env #f code.function
     (code.unfolded 𝓤 H 𝓜 𝓡)
-    on-parts-def.name on-parts-def.routine code.calls-on-parts·start-get-flags (on-parts-thm.met 𝓤 H 𝓜 𝓖 𝓡) (λ 𝓣 known.
+    call-def.name call-def.routine code.calls-guest-calls·start-get-flags (call-thm.met 𝓤 H 𝓜 𝓖 𝓡) (λ 𝓣 known.
     exported (rowBy guest) (partsOf guest) 1 (tail (f.signature .params)) (f.ended .kept .1) (f.signature .result)
-    𝓤 H (𝓖 .A) (givenOf 𝓤 H 𝓜 𝓖) 𝓣 code.function on-parts-def.name
+    𝓤 H (𝓖 .A) (givenOf 𝓤 H 𝓜 𝓖) 𝓣 code.function call-def.name
     (λ κs. (a-mut-slice (named 1) (κs .1 .0) u8, tt))
     (opens guest 𝓤 H (𝓖 .A) (givenOf 𝓤 H 𝓜 𝓖)) (f.clauses 𝓤 H (𝓖 .A) (𝓜 .mem) (𝓡 .run))
     (tyInt w32) (λ κs. a-number w32) (λ κs. refl) (λ κs. refl) (λ κs x b o bs. (refl, refl))

@@ -8,9 +8,9 @@ use denote.Builtin.{u8, u32}
 use denote.Triple.Entry.{onEntry}
 use Rattle.messages.specs.Settings.{Good as GoodSettings}
 use Rattle.interface.specs.States.{Good, stateOf}
-use Rattle.by_number.proofs.steer as on-parts
-use Rattle.by_number.proofs.steer.Symbol as on-parts-def
-use Rattle.by_number.proofs.steer.Met as on-parts-thm
+use Rattle.by_number.proofs.steer as call
+use Rattle.by_number.proofs.steer.Symbol as call-def
+use Rattle.by_number.proofs.steer.Met as call-thm
 use Rattle.lending.proofs.Spelt.{a-number, a-mut, a-shr-slice}
 use Rattle.lending.proofs.Structs.{rowBy, partsOf, valuesOf, sift, sifted, looks}
 use Rattle.lending.proofs.Exports.{tail, passing, asking, looked, concluded}
@@ -23,11 +23,11 @@ use Rattle.zwerfen.proofs.host.zwerfen_steer.Code as code
 pub zwerfen-steer-spec : {M : Type 1} → stated.statement M
 unfolding code.routine
 zwerfen-steer-spec 𝓤 H 𝓜 𝓖 𝓡 =
-    concluded 𝓤 H 𝓜 𝓖 𝓡 f.signature on-parts.signature (f.spec 𝓤 H) (on-parts.spec 𝓤 H) code.env #f code.function
+    concluded 𝓤 H 𝓜 𝓖 𝓡 f.signature call.signature (f.spec 𝓤 H) (call.spec 𝓤 H) code.env #f code.function
     (code.unfolded 𝓤 H 𝓜 𝓡)
-    on-parts-def.name on-parts-def.routine code.calls-by-number·steer (on-parts-thm.met 𝓤 H 𝓜 𝓖 𝓡) (λ 𝓣 known.
+    call-def.name call-def.routine code.calls-by-number·steer (call-thm.met 𝓤 H 𝓜 𝓖 𝓡) (λ 𝓣 known.
     looked (rowBy interface) (sift steering (partsOf interface)) 4 (tail (f.signature .params)) (f.ended .kept .1) (f.signature .result)
-    𝓤 H (𝓖 .A) (givenOf 𝓤 H 𝓜 𝓖) 𝓣 code.function on-parts-def.name (λ κs.
+    𝓤 H (𝓖 .A) (givenOf 𝓤 H 𝓜 𝓖) 𝓣 code.function call-def.name (λ κs.
     let κt = κs .1 .1 in (
       a-shr-slice (named 1) (κs .1 .0) u8,
       (a-mut (named 2) (κt .0) u32, (a-mut (named 3) (κt .1 .0) u32, (a-mut (named 4) (κt .1 .1 .0) u32, tt))),
@@ -37,5 +37,5 @@ zwerfen-steer-spec 𝓤 H 𝓜 𝓖 𝓡 =
     (λ κs qs ref x us g ν γs.
     let p = passing (sift steering (partsOf interface)) (λ i. sifted steering (partsOf interface) (valuesOf interface i)) κs qs ref x us ν γs in
     asking 𝓤 (Good (stateOf (ref .now))) (GoodSettings (stateOf (ref .now) .settings))
-    (onEntry 𝓤 H (𝓖 .A) on-parts.signature (p .0) (p .1) (p .3) (p .4))
+    (onEntry 𝓤 H (𝓖 .A) call.signature (p .0) (p .1) (p .3) (p .4))
     (λ good. good .settings) (known (p, g))))

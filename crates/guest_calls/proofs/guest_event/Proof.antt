@@ -1,4 +1,4 @@
--- `on_parts::driver::guest_event_on_parts` meets its contract: the event is told by its number, and what its ack says.
+-- `guest_calls::guest_event` meets its contract: the event is told by its number, and what its ack says.
 -- Assumes nothing.
 use Rattle.octets.specs.Prelude.{ap, _∙_, needs}
 use Rattle.guest_steps.specs.Calls.{After}
@@ -6,8 +6,8 @@ use Rattle.guest_steps.specs.declared.GuestAnswer.{GuestAnswer}
 use Rattle.octets.specs.Outcome.{done}
 use Rattle.by_number.specs.Answers.{statusOfTold, flagsOfTold}
 use Rattle.by_number.proofs.Driving.{tells}
-use Rattle.on_parts.proofs.guest.guest_event.Statement.{statement}
-use Rattle.on_parts.proofs.guest.guest_event.Tie as tie
+use Rattle.guest_calls.proofs.guest_event.Statement.{statement}
+use Rattle.guest_calls.proofs.guest_event.Tie as tie
 
 returns : tie.Need-returns
 returns c =

@@ -1,4 +1,4 @@
-// The guest's calls.
+// The guest's calls on the parts of a guest as they are lent, each by the number of its answer: what the exported calls lend to.
 ghost use Rattle.octets.specs.Prelude.{_≡_};
 ghost use Rattle.guest_messages.specs.Writer.{getFlagsMessage, setFlagsMessage, setKeyMessage, setMappingMessage};
 ghost use Rattle.guest_steps.specs.Guest.{Good, guestIn};
@@ -26,7 +26,7 @@ pub fn start_get_flags<'a>(
 {
     let no_key = [0u8; 1];
     let no_entries = [0u64; 1];
-    let answer = frontend::start(
+    frontend::start(
         numbers,
         request,
         header,
@@ -35,8 +35,7 @@ pub fn start_get_flags<'a>(
         Ask::GetFlags,
         &no_key[0..0],
         &no_entries[0..0],
-    );
-    by_number::answer_number(answer)
+    )
 }
 
 // Starts to set the flags of the hash types to use.
@@ -56,7 +55,7 @@ pub fn start_set_flags<'a>(
 {
     let no_key = [0u8; 1];
     let no_entries = [0u64; 1];
-    let answer = frontend::start(
+    frontend::start(
         numbers,
         request,
         header,
@@ -65,8 +64,7 @@ pub fn start_set_flags<'a>(
         Ask::SetFlags(flags),
         &no_key[0..0],
         &no_entries[0..0],
-    );
-    by_number::answer_number(answer)
+    )
 }
 
 // Starts to set the key, octet for octet.
@@ -85,7 +83,7 @@ pub fn start_set_key<'a>(
         × Good (guestIn (now (numbers .exit)) (now (request .exit)) (now (header .exit)) (now (payload .exit))) ⌝ }
 {
     let no_entries = [0u64; 1];
-    let answer = frontend::start(
+    frontend::start(
         numbers,
         request,
         header,
@@ -94,8 +92,7 @@ pub fn start_set_key<'a>(
         Ask::SetKey,
         key,
         &no_entries[0..0],
-    );
-    by_number::answer_number(answer)
+    )
 }
 
 // Starts to set the mapping: the queue of each entry.
@@ -114,7 +111,7 @@ pub fn start_set_mapping<'a>(
         × Good (guestIn (now (numbers .exit)) (now (request .exit)) (now (header .exit)) (now (payload .exit))) ⌝ }
 {
     let no_key = [0u8; 1];
-    let answer = frontend::start(
+    frontend::start(
         numbers,
         request,
         header,
@@ -123,8 +120,7 @@ pub fn start_set_mapping<'a>(
         Ask::SetMapping,
         &no_key[0..0],
         entries,
-    );
-    by_number::answer_number(answer)
+    )
 }
 
 // One event of the guest on its page.
