@@ -3,7 +3,6 @@ pub mod Branches
 pub mod Goodness
 pub mod Steps
 pub mod Answers
-pub mod Queues
 pub mod Pages
 pub mod Arrivals
 pub mod Falls

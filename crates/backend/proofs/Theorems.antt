@@ -21,7 +21,7 @@ use Rattle.backend.specs.Rules.{Accepted, room, afterReading, BecomesWho
 use Rattle.interface.specs.States.{HostState}
 use Rattle.backend.proofs.Branches.{event-cases}
 use Rattle.backend.proofs.Goodness.{good-interface, good-event}
-use Rattle.backend.proofs.Queues.{good-queue}
+use Rattle.interface.proofs.Queues.{good-queue}
 use Rattle.backend.proofs.Arrivals.{read-octets}
 
 -- every state that calls reach from setup is good

@@ -91,9 +91,9 @@ fn proceed(
         (now (entries .entry))) (now (page .entry)) unread room ⌝ }
 {
     if numbers[ACK_WRITTEN] < numbers[ACK_LENGTH] {
-        return interface::respond(numbers, ack, room, page);
+        return event_stages::respond(numbers, ack, room, page);
     }
-    interface::read_request(&page[..], numbers, header, payload, unread);
+    event_stages::read_request(&page[..], numbers, header, payload, unread);
     conclude(numbers, header, payload, ack, key, entries, page, room)
 }
 
@@ -118,8 +118,8 @@ fn conclude(
         (now (entries .entry))) (now (page .entry)) room ⌝ }
 {
     if ring::is_whole(header, numbers[TAKEN]) {
-        interface::carry_over(numbers, header, payload, ack, key, entries);
-        return interface::respond(numbers, ack, room, page);
+        event_stages::carry_over(numbers, header, payload, ack, key, entries);
+        return event_stages::respond(numbers, ack, room, page);
     }
     page::write_counts(
         page,

@@ -9,7 +9,7 @@ use Rattle.interface.specs.Events.{After, ackOwed, eventOf, left}
 use Rattle.interface.specs.States.{HostState}
 use Rattle.backend.proofs.Goodness.{good-interface}
 use Rattle.backend.proofs.Answers.{refused-leaves-all}
-use Rattle.backend.proofs.Queues.{good-queue}
+use Rattle.interface.proofs.Queues.{good-queue}
 use Rattle.by_number.specs.Answers.{Steers}
 
 -- a setup that is answered 0 leaves a state that the other calls can be asked with

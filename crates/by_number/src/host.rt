@@ -26,7 +26,7 @@ pub fn steer<'a>(
     ensures { λ r. ⌜ Steers (steeredBy (settingsIn (now (numbers .entry)) (now (key .entry)) (now (entries .entry))) (now (packet .entry)))
         (now («hash_type» .entry)) (now (hash .entry)) r (now («hash_type» .exit)) (now (hash .exit)) (now (queue .exit)) ⌝ }
 {
-    let answer = backend::steer(
+    let answer = interface::steer(
         numbers[FLAGS] as u8,
         key,
         entries,

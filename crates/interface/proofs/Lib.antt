@@ -1,3 +1,2 @@
--- What the stages of an event did, and how it is stored.
-pub mod Parts
-pub mod Stored
+-- What holds of the queues that are chosen under good settings.
+pub mod Queues

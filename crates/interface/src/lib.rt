@@ -1,14 +1,17 @@
-// One interface of the host: how its state is stored, and the stages of an event of its control ring.
-mod stages;
+// One interface of the host: how its state is stored, its setup, and its packet question.
+mod packets;
+mod setup;
 
 use messages::HEADER;
 use messages::MAX_ACK;
 use messages::MAX_ENTRIES;
 use messages::MAX_PAYLOAD;
-pub use stages::carry_over;
-pub use stages::read_request;
-pub use stages::respond;
+pub use packets::steer;
+pub use setup::set_up;
 use toeplitz::KEY_LENGTH;
+
+// The most queues in operation.
+pub const MAX_QUEUES: u32 = 64;
 
 // What a setup answers, by number: it is done, or the number of queues is 0 or more than 64.
 pub const SET_UP: u32 = 0;

@@ -16,7 +16,7 @@ use Rattle.packet.specs.Packets.{PacketType, noType, hashType, isIpv4, isIpv6, 
 use Rattle.steering.specs.Steering.{queueIn, typeUsed, chosen}
 use Rattle.interface.specs.States.{HostState, queuesWrong, interfaceAtSetup, setUpOutcome}
 use Rattle.backend.specs.Streams.{messagesIn, restOf, Messages, none, more, settingsAfter, Served}
-use Rattle.backend.proofs.Queues.{good-queue}
+use Rattle.interface.proofs.Queues.{good-queue}
 use Rattle.backend.proofs.Falls.{messages-whole}
 use Rattle.ring.specs.Reading.{messageLength}
 use Rattle.capture.specs.Header.{headerOutcome}

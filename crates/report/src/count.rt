@@ -116,7 +116,7 @@ fn count_record(
         (length (now (frame .entry))) (now (packets .entry)) (now (octets .entry)) (now (packets .exit)) (now (octets .exit)) r ⌝ }
 {
     let packet = capture::ip_part(link, frame);
-    let choice = backend::steer(flags, key, entries, count, packet);
+    let choice = interface::steer(flags, key, entries, count, packet);
     let on = queue(choice);
     let length = frame.len() as u32;
     add(packets, on, 1);

@@ -93,7 +93,7 @@ fn set_up(queues: u32) -> SetUp
     let mut ack = [0u8; MAX_ACK];
     let mut key = [0u8; KEY_LENGTH];
     let mut entries = [0u8; MAX_ENTRIES];
-    let answer = backend::set_up(
+    let answer = interface::set_up(
         &mut numbers,
         &mut header,
         &mut payload,

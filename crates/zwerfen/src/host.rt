@@ -12,7 +12,7 @@ pub extern "C" fn zwerfen_set_up(interface: &mut Interface, queues: u32) -> u32
     ensures { λ r. ⌜ (r ≡ numberOf (setUpOutcome queues))
         × (stateOf (now (interface .exit)) ≡ placed itself (setUpOutcome queues) (stateOf (now (interface .entry)))) ⌝ }
 {
-    backend::set_up(
+    interface::set_up(
         &mut interface.numbers,
         &mut interface.header,
         &mut interface.payload,

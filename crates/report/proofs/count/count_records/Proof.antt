@@ -6,7 +6,7 @@ use Rattle.octets.specs.Prelude.{length-take-le, needs}
 use Rattle.octets.specs.Outcome.{value}
 use Rattle.messages.specs.Settings.{Settings, maxQueues}
 use Rattle.steering.specs.Steering.{queueIn}
-use Rattle.backend.proofs.Queues.{good-queue}
+use Rattle.interface.proofs.Queues.{good-queue}
 use Rattle.capture.specs.Header.{captureHeader, orderOf}
 use Rattle.capture.specs.Records.{Fall, oneMore, fallOf, stepOutcomeOf, capturedOctets}
 use Rattle.capture.specs.Packets.{ipPart}

@@ -1,12 +1,12 @@
--- `zwerfen::zwerfen_set_up` meets its contract: the interface is lent in parts to `backend::set_up` (`Exports.antt` of the
+-- `zwerfen::zwerfen_set_up` meets its contract: the interface is lent in parts to `interface::set_up` (`Exports.antt` of the
 -- crate `lending`). All that the proof knows of that function is that it meets its contract.
 -- Assumes nothing.
 use Rattle.octets.specs.Prelude.{refl}
 use mir.Syntax.{tyInt, w32}
 use contract.Running.{givenOf}
-use Rattle.backend.proofs.set_up as call
-use Rattle.backend.proofs.set_up.Symbol as call-def
-use Rattle.backend.proofs.set_up.Met as call-thm
+use Rattle.interface.proofs.set_up as call
+use Rattle.interface.proofs.set_up.Symbol as call-def
+use Rattle.interface.proofs.set_up.Met as call-thm
 use Rattle.lending.proofs.Spelt.{a-number}
 use Rattle.lending.proofs.Structs.{rowBy, partsOf, valuesOf, opens}
 use Rattle.lending.proofs.Exports.{tail, passing, exported, concluded}
@@ -21,7 +21,7 @@ unfolding code.routine
 zwerfen-set-up-spec 𝓤 H 𝓜 𝓖 𝓡 =
     concluded 𝓤 H 𝓜 𝓖 𝓡 f.signature call.signature (f.spec 𝓤 H) (call.spec 𝓤 H) code.env #f code.function
     (code.unfolded 𝓤 H 𝓜 𝓡)
-    call-def.name call-def.routine code.calls-backend·set-up (call-thm.met 𝓤 H 𝓜 𝓖 𝓡) (λ 𝓣 known.
+    call-def.name call-def.routine code.calls-interface·set-up (call-thm.met 𝓤 H 𝓜 𝓖 𝓡) (λ 𝓣 known.
     exported (rowBy interface) (partsOf interface) 0 (tail (f.signature .params)) (f.ended .kept .1) (f.signature .result)
     𝓤 H (𝓖 .A) (givenOf 𝓤 H 𝓜 𝓖) 𝓣 code.function call-def.name
     (λ κs. (a-number w32, tt))

@@ -1,11 +1,11 @@
 // A new interface, written in place.
 ghost use Rattle.octets.specs.Prelude.{_≡_};
 ghost use Rattle.octets.specs.Outcome.{numberOf, placed, itself};
 ghost use Rattle.interface.specs.States.{interfaceIn, setUpOutcome};
 use crate::MAX_QUEUES;
-use interface::NUMBERS;
-use interface::QUEUES_WRONG;
-use interface::SET_UP;
+use crate::NUMBERS;
+use crate::QUEUES_WRONG;
+use crate::SET_UP;
 use messages::HEADER;
 use messages::MAX_ACK;
 use messages::MAX_ENTRIES;

@@ -7,9 +7,9 @@ use Rattle.messages.specs.Requests.{carriedAs}
 use Rattle.ring.specs.Reading.{incomingOf}
 use Rattle.page.specs.Page.{responsesAt, advanced, counted, put}
 use Rattle.ring.specs.Writing.{outgoingOf, fitting, sentOctets}
 use Rattle.interface.specs.States.{outgoingIn, interfaceIn}
 use Rattle.interface.specs.Events.{ackWritten, ackOwed, withIncoming, withOutgoing, responded, left}
-use Rattle.interface.proofs.Parts.{over, responds}
+use Rattle.event_stages.proofs.Parts.{over, responds}
 
 module _ (numbers header payload ack key entries : List ℕ) (long : length numbers ≡ 8) where
   -- octets taken and own req_cons, with another message

@@ -1,4 +1,4 @@
--- `backend::packets::steer` meets its contract: the table is the listed number of entries, and can be asked.
+-- `interface::packets::steer` meets its contract: the table is the listed number of entries, and can be asked.
 -- Assumes nothing.
 use Rattle.octets.specs.Prelude.{_≡_, sym, ap, subst, _∙_, ℕ, arith, length, take, needs}
 use native.Mathlib.Nat.{sub-zero}
@@ -6,9 +6,9 @@ use Rattle.toeplitz.specs.Hash.{keyLength}
 use Rattle.messages.specs.Settings.{maxEntries}
 use Rattle.messages.proofs.Powers.{listed-parts}
 use Rattle.steering.specs.Steering.{Usable, steered}
-use Rattle.backend.proofs.Queues.{usable}
-use Rattle.backend.proofs.packets.steer.Statement.{statement}
-use Rattle.backend.proofs.packets.steer.Tie as tie
+use Rattle.interface.proofs.Queues.{usable}
+use Rattle.interface.proofs.packets.steer.Statement.{statement}
+use Rattle.interface.proofs.packets.steer.Tie as tie
 
 -- once the table is lent
 module _ (d : tie.After-steer-arg) where

@@ -1,10 +1,10 @@
--- `backend::setup::set_up` meets its contract: both tests are those of `setUpOutcome`, and what is written is the state at setup.
+-- `interface::setup::set_up` meets its contract: both tests are those of `setUpOutcome`, and what is written is the state at setup.
 -- Assumes nothing.
 use Rattle.octets.specs.Prelude.{refl, arith, needs, le-leb, lt-leb}
 use Rattle.messages.specs.Settings.{maxQueues}
 use Rattle.interface.specs.States.{setUpOutcome}
-use Rattle.backend.proofs.setup.set_up.Statement.{statement}
-use Rattle.backend.proofs.setup.set_up.Tie as tie
+use Rattle.interface.proofs.setup.set_up.Statement.{statement}
+use Rattle.interface.proofs.setup.set_up.Tie as tie
 
 returns : tie.Need-returns
 unfolding setUpOutcome

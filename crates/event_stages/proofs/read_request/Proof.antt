@@ -1,14 +1,14 @@
--- `interface::stages::read_request` meets its contract: the octets read are counted at their places, and where no octet stands
+-- `event_stages::read_request` meets its contract: the octets read are counted at their places, and where no octet stands
 -- unread, reading would change nothing.
 -- Assumes nothing.
 use Rattle.octets.specs.Prelude.{_≡_, ap, _∙_, List, ℕ, _-_, _^_, _<_, arith, length, length-set, needs}
 use Rattle.page.specs.Page.{requestsAt, advanced, offsets, octetsIn}
 use Rattle.ring.specs.Reading.{Incoming, received, receivedFrom}
 use Rattle.interface.specs.States.{incomingIn, interfaceIn}
-use Rattle.interface.proofs.Parts.{reads}
-use Rattle.interface.proofs.Stored.{stored-incoming}
-use Rattle.interface.proofs.stages.read_request.Statement.{statement}
-use Rattle.interface.proofs.stages.read_request.Tie as tie
+use Rattle.event_stages.proofs.Parts.{reads}
+use Rattle.event_stages.proofs.Stored.{stored-incoming}
+use Rattle.event_stages.proofs.read_request.Statement.{statement}
+use Rattle.event_stages.proofs.read_request.Tie as tie
 
 received-nothing : (page : List ℕ) (i : Incoming) → i .cons < 2 ^ 32 → i ≡ receivedFrom requestsAt page i 0
 unfolding receivedFrom received octetsIn offsets

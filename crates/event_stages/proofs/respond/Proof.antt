@@ -1,14 +1,14 @@
--- `interface::stages::respond` meets its contract: the ack octets that fit are sent and counted at their places, and the counts
+-- `event_stages::respond` meets its contract: the ack octets that fit are sent and counted at their places, and the counts
 -- are written behind them.
 -- Assumes nothing.
 use Rattle.octets.specs.Prelude.{_≡_, refl, ap, _∙_, List, cond, ℕ, _+_, arith, length, getD, set, length-set, ltb, needs, lt-ltb}
 use Rattle.octets.specs.Prelude.{le-ltb}
 use Rattle.page.specs.Page.{counted as writtenCounts}
 use Rattle.interface.specs.Events.{ackWritten, ackOwed}
 use Rattle.interface.specs.Inner.{Responds}
-use Rattle.interface.proofs.Stored.{stored-responds}
-use Rattle.interface.proofs.stages.respond.Statement.{statement}
-use Rattle.interface.proofs.stages.respond.Tie as tie
+use Rattle.event_stages.proofs.Stored.{stored-responds}
+use Rattle.event_stages.proofs.respond.Statement.{statement}
+use Rattle.event_stages.proofs.respond.Tie as tie
 
 -- once the numbers are lent
 module _ (d : tie.After-held) where

@@ -1,0 +1,3 @@
+-- What the stages of an event did, and how it is stored.
+pub mod Parts
+pub mod Stored
