@@ -73,7 +73,7 @@ pub fn carry_over(
     let kind = octets::read_u32(header, 0);
     let size = octets::read_u32(header, SIZE_AT);
     let held = &mut numbers[..];
-    let carried = messages::carry_out(
+    let carried = requests::carry_out(
         held[QUEUES] as u8,
         held[FLAGS] as u8,
         held[ENTRY_COUNT] as u8,

@@ -145,7 +145,7 @@ fn request(
     let flags = numbers[FLAGS];
     let count = numbers[COUNT];
     let mut ack = [0u8; MAX_ACK];
-    let carried = messages::carry_out(
+    let carried = requests::carry_out(
         queues,
         flags,
         count,

@@ -1,10 +1,12 @@
-// The host's side of the control messages: the settings of an interface, and requests judged and carried
-// out, each with its ack. The guest is not trusted: a request is judged whole before anything changes.
+// The control messages: their types, statuses and lengths, what the settings of an interface are, and two parts of carrying a
+// request out: the table that a mapping gives, and the ack.
 mod acks;
-mod requests;
 mod table;
 
-pub use requests::carry_out;
+pub use acks::with_flags;
+pub use acks::with_status;
+pub use table::Built;
+pub use table::build_table;
 pub use table::is_power_of_two;
 
 // Message types: of the host's answer, and of the guest's requests.

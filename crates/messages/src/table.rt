@@ -15,7 +15,7 @@ pub struct Built {
 }
 
 // The mapping of the first `count` entries of the payload, if each is below the queue count.
-pub fn build(payload: &[u8], count: u8, queues: u8) -> Built
+pub fn build_table(payload: &[u8], count: u8, queues: u8) -> Built
     requires { ⌜ (count * fieldSize ≤ length (now payload)) × (count ≤ maxEntries) ⌝ }
     ensures { λ r. ⌜ Builds queues count (now (payload .entry)) r ⌝ }
 {

@@ -190,7 +190,7 @@ fn carry_out(settings: Held, kind: u32, size: u32, payload: &[u8; MAX_PAYLOAD]) 
     let mut key = settings.key;
     let mut entries = settings.entries;
     let mut ack = [0u8; MAX_ACK];
-    let left = messages::carry_out(
+    let left = requests::carry_out(
         settings.queues,
         settings.flags,
         settings.count,

@@ -1,0 +1,61 @@
+-- `requests::set_mapping` meets its contract: the tests on the way to each return pick the row of the table.
+-- Assumes nothing.
+use Rattle.octets.specs.Prelude.{_≡_, sym, _∙_, true, _/_, _%_, _<_, arith, needs, not-true, not-false}
+use Rattle.messages.specs.Wire.{fieldSize}
+use Rattle.messages.specs.Settings.{maxEntries, isPowerOfTwo, settingsOf}
+use Rattle.messages.specs.Requests.{setMapping}
+use Rattle.messages.proofs.Statuses.{set-mapping-remainder, set-mapping-power, set-mapping-many, set-mapping-entry, set-mapping-done}
+use Rattle.messages.proofs.Effects.{carried-refused, mapping-set}
+use Rattle.requests.proofs.set_mapping.Statement.{statement}
+use Rattle.requests.proofs.set_mapping.Tie as tie
+
+returns : tie.Need-returns
+returns c flags key =
+    let uneven : c .before .before .args .size % fieldSize ≡ 0 → ⊥ = λ e. omega (arith, c .if1 .taken) in
+    carried-refused setMapping _ _ _ 1 (set-mapping-remainder _ _ _ uneven)
+
+returns-2 : tie.Need-returns-2
+returns-2 c flags key =
+    let power = c .before in
+    let not = sym (power .is-power-of-two .ensures) ∙ not-true _ (c .if2 .taken) in
+    carried-refused setMapping _ _ _ 1 (set-mapping-power _ _ _ (power .before .if1 .left) not)
+
+-- once the number of entries is a power of two
+module _ (d : tie.Else2) where
+  abbrev start : tie.Start
+  start = d .before .before .before .before
+
+  multiple : start .args .size % fieldSize ≡ 0
+  multiple = d .before .before .if1 .left
+
+  power : isPowerOfTwo (start .args .size / fieldSize) ≡ true
+  power = sym (d .before .is-power-of-two .ensures) ∙ not-false _ (d .if2 .left)
+
+returns-3 : tie.Need-returns-3
+returns-3 c flags key =
+    let d = c .before in
+    let many : maxEntries < start d .args .size / fieldSize = omega (arith, c .if3 .taken) in
+    carried-refused setMapping _ _ _ 2 (set-mapping-many _ _ _ (multiple d) (power d) many)
+
+returns-4 : tie.Need-returns-4
+returns-4 c flags key =
+    let built = c .before .before in
+    let few = built .before in
+    let bad = sym (built .build-table .ensures .passed) ∙ not-true _ (c .if4 .taken) in
+    carried-refused setMapping _ _ _ 1 (set-mapping-entry _ _ _ (multiple (few .before)) (power (few .before)) (few .if3 .left) bad)
+
+returns-5 : tie.Need-returns-5
+returns-5 c flags key =
+    let last = c .before .before in
+    let built = last .before .before in
+    let few = built .before in
+    let d = few .before in
+    let a = start d .args in
+    let held = settingsOf (a .queues) flags key (a .entries .now) (a .count .now) in
+    let passed = not-false _ (last .if4 .left) in
+    let all = sym (built .build-table .ensures .passed) ∙ passed in
+    mapping-set held _ _ _ (built .build-table .ensures .mapping passed) (set-mapping-done _ _ _ (multiple d) (power d) (few .if3 .left) all)
+
+pub set-mapping-spec : {M : Type 1} → statement M
+set-mapping-spec =
+    tie.close (tie.spec returns (λ c κs. search needs) returns-2 returns-3 (λ c. search needs) (λ c κs. search needs) returns-4 returns-5)
