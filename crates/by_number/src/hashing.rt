@@ -33,7 +33,7 @@ pub fn two_way(key: &[u8], hash_type: u32, meet: &mut u32, bit: &mut usize) -> u
     ensures { λ _. ⌜ now (meet .exit) ≡ placed meets (twoWayOutcome (now (key .entry)) «hash_type») (now (meet .entry)) ⌝ }
     ensures { λ _. ⌜ now (bit .exit) ≡ placed bitTold (twoWayOutcome (now (key .entry)) «hash_type») (now (bit .entry)) ⌝ }
 {
-    let answer = toeplitz::two_way(key, hash_type);
+    let answer = directions::two_way(key, hash_type);
     match answer {
         TwoWayAnswer::Yes => {
             *meet = 1;

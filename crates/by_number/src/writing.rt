@@ -67,7 +67,7 @@ pub fn read_ack(kind: u32, message: &[u8], status: &mut u32, flags: &mut u32) ->
     ensures { λ _. ⌜ now (status .exit) ≡ placed statusTold (readAck kind (now (message .entry))) (now (status .entry)) ⌝ }
     ensures { λ _. ⌜ now (flags .exit) ≡ placed flagsTold (readAck kind (now (message .entry))) (now (flags .entry)) ⌝ }
 {
-    let answer = guest_messages::read_ack(kind, message);
+    let answer = ack_reader::read_ack(kind, message);
     match answer {
         AckAnswer::Status(s) => {
             *status = s as u32;

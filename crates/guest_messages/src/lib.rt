@@ -1,9 +1,7 @@
-// The guest's messages: a writer of the four requests and a reader of acks. What is written is judged by form alone: whether
-// a queue number is good is for the host to say.
-mod reader;
+// The guest's messages: the writer of the four requests, and what the reader of acks answers. What is written is judged by form
+// alone: whether a queue number is good is for the host to say.
 mod writer;
 
-pub use reader::read_ack;
 pub use writer::write_get_flags;
 pub use writer::write_set_flags;
 pub use writer::write_set_key;

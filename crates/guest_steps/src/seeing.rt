@@ -46,7 +46,7 @@ fn judge(kind: u32, header: &[u8; HEADER], payload: &[u8; MAX_ACK_PAYLOAD], size
     let mut message = [0u8; MAX_ACK];
     octets::copy(&mut message[0..HEADER], header);
     octets::copy(&mut message[HEADER..MAX_ACK], payload);
-    let answer = guest_messages::read_ack(kind, &message[0..HEADER + size]);
+    let answer = ack_reader::read_ack(kind, &message[0..HEADER + size]);
     match answer {
         AckAnswer::Status(status) => Sight::Status(status),
         AckAnswer::Flags(flags) => Sight::Flags(flags),

@@ -60,7 +60,7 @@ fn answer(kind: u8, first: &[u8], second: &[u8]) {
     if kind == HASH {
         text::print(text::hash_line(toeplitz::hash(first, second)));
     } else if kind == TWO_WAY {
-        text::print(text::verdict_line(toeplitz::two_way(first, hash_type(second))));
+        text::print(text::verdict_line(directions::two_way(first, hash_type(second))));
     } else if kind == HASH_PROGRAM {
         text::print(text::hash_text(second));
     } else {

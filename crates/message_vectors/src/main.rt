@@ -241,5 +241,5 @@ fn read(body: &[u8]) {
         print_cut();
         return;
     }
-    print_ack_answer(guest_messages::read_ack(octets::read_u32(body, 0), &body[4..]));
+    print_ack_answer(ack_reader::read_ack(octets::read_u32(body, 0), &body[4..]));
 }

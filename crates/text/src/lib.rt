@@ -46,10 +46,10 @@ pub fn two_way_text(key: &[u8]) -> Text
     if key.len() != KEY_LENGTH {
         return with_refusal(empty(), KEY_LENGTH_WRONG);
     }
-    let ipv4 = with_type(empty(), b"ipv4 ", toeplitz::two_way(key, 0));
-    let ipv4_tcp = with_type(ipv4, b"ipv4_tcp ", toeplitz::two_way(key, 1));
-    let ipv6 = with_type(ipv4_tcp, b"ipv6 ", toeplitz::two_way(key, 2));
-    with_type(ipv6, b"ipv6_tcp ", toeplitz::two_way(key, 3))
+    let ipv4 = with_type(empty(), b"ipv4 ", directions::two_way(key, 0));
+    let ipv4_tcp = with_type(ipv4, b"ipv4_tcp ", directions::two_way(key, 1));
+    let ipv6 = with_type(ipv4_tcp, b"ipv6 ", directions::two_way(key, 2));
+    with_type(ipv6, b"ipv6_tcp ", directions::two_way(key, 3))
 }
 
 // Writes a text that was made here to standard output.

@@ -6,7 +6,6 @@ pub mod Mirror
 pub mod OneBit
 pub mod Lowest
 pub mod TwoWays
-pub mod Searches
 pub mod Period
 pub mod Reverses
 pub mod Outcomes

@@ -1,12 +1,12 @@
-// The Toeplitz hash of a 40-octet key and an input of at most 36 octets, and the two-way question:
-// whether every input of a hash type has the hash of its reverse. Knows nothing of rings or packets.
-mod directions;
+// The Toeplitz hash of a 40-octet key and an input of at most 36 octets, the window that it slides over the key, and what the
+// two-way question answers. Knows nothing of rings or packets.
 mod hashing;
 mod window;
 
-pub use directions::two_way;
 pub use hashing::hash;
 pub use hashing::hash_or;
+pub use window::next_window;
+pub use window::octet_window;
 
 // Octets of a key, the most octets of a hash input, and the highest hash type.
 pub const KEY_LENGTH: usize = 40;
