@@ -1,17 +1,16 @@
-// The cases of the host's interface that more than one test program runs, and the lines that they print. The parts of the
-// interface are the program's, and are lent.
-ghost use Rattle.octets.specs.Prelude.{_≡_, List, ℕ, length};
-ghost use Rattle.interface.specs.States.{Good, interfaceIn};
-use crate::print_settings;
+// The calls of the host's interface that more than one test program makes, each with the line that it prints. An interface is
+// passed by value, and its parts are lent only to the call itself.
+ghost use Rattle.octets.specs.Prelude.{_≡_, length};
+ghost use Rattle.interface.specs.States.{Good, stateOf};
+use cases::digest;
 use cases::number_at;
 use cases::print_cut;
-use cases::print_digest;
-use cases::print_number;
+use cases::print_form;
 use cases::print_word;
 use interface::ENTRY_COUNT;
 use interface::EventAnswer;
 use interface::FLAGS;
-use interface::NUMBERS;
+use interface::Interface;
 use interface::OWN_REQ_CONS;
 use interface::OWN_RSP_PROD;
 use interface::SetUpAnswer;
@@ -23,76 +22,59 @@ use page::REQ_CONS;
 use page::RSP_PROD;
 use toeplitz::KEY_LENGTH;
 
-// What a case asks of the interface: a new one; an event; to take its own counts from the page, so that a case can begin near
-// their end; or nothing.
-pub enum HostCase {
-    SetUp,
-    Event,
-    Counts,
-    Other,
-}
-
-// The interface that a program begins with has one queue.
-pub fn set_up_first<'a>(
-    numbers: &'a mut [u64; NUMBERS],
-    header: &'a mut [u8; HEADER],
-    payload: &'a mut [u8; MAX_PAYLOAD],
-    ack: &'a mut [u8; MAX_ACK],
-    key: &'a mut [u8; KEY_LENGTH],
-    entries: &'a mut [u8; MAX_ENTRIES],
-)
-    ensures { λ _. ⌜ Good (interfaceIn (now (numbers .exit)) (now (header .exit)) (now (payload .exit)) (now (ack .exit)) (now (key .exit))
-        (now (entries .exit))) ⌝ }
+// The interface that a program begins with is as setup with one queue leaves it.
+pub fn first_interface() -> Interface
+    ensures { λ r. ⌜ Good (stateOf r) ⌝ }
 {
-    backend::set_up(numbers, header, payload, ack, key, entries, 1);
-}
-
-// Answers one case.
-pub fn answer_host<'a>(
-    numbers: &'a mut [u64; NUMBERS],
-    header: &'a mut [u8; HEADER],
-    payload: &'a mut [u8; MAX_PAYLOAD],
-    ack: &'a mut [u8; MAX_ACK],
-    key: &'a mut [u8; KEY_LENGTH],
-    entries: &'a mut [u8; MAX_ENTRIES],
-    page: &mut [u8],
-    case: HostCase,
-    body: &[u8],
-)
-    requires { ⌜ Good (interfaceIn (now numbers) (now header) (now payload) (now ack) (now key) (now entries))
-        × (length (now page) ≡ 4160) ⌝ }
-    ensures { λ _. ⌜ Good (interfaceIn (now (numbers .exit)) (now (header .exit)) (now (payload .exit)) (now (ack .exit)) (now (key .exit))
-        (now (entries .exit))) ⌝ }
-{
-    match case {
-        HostCase::SetUp => set_up_host(numbers, header, payload, ack, key, entries, body),
-        HostCase::Event => host_event(numbers, header, payload, ack, key, entries, page, body),
-        HostCase::Counts => recount(numbers, &page[..]),
-        HostCase::Other => {}
+    Interface {
+        numbers: [1, 0, 1, 0, 0, 0, 0, 0],
+        header: [0; HEADER],
+        payload: [0; MAX_PAYLOAD],
+        ack: [0; MAX_ACK],
+        key: [0; KEY_LENGTH],
+        entries: [0; MAX_ENTRIES],
     }
 }
 
 // A new interface with a queue count. Where that is refused, the one that there is stays.
-fn set_up_host<'a>(
-    numbers: &'a mut [u64; NUMBERS],
-    header: &'a mut [u8; HEADER],
-    payload: &'a mut [u8; MAX_PAYLOAD],
-    ack: &'a mut [u8; MAX_ACK],
-    key: &'a mut [u8; KEY_LENGTH],
-    entries: &'a mut [u8; MAX_ENTRIES],
-    body: &[u8],
-)
-    requires { ⌜ Good (interfaceIn (now numbers) (now header) (now payload) (now ack) (now key) (now entries)) ⌝ }
-    ensures { λ _. ⌜ Good (interfaceIn (now (numbers .exit)) (now (header .exit)) (now (payload .exit)) (now (ack .exit)) (now (key .exit))
-        (now (entries .exit))) ⌝ }
+pub fn set_up(i: Interface, body: &[u8]) -> Interface
+    requires { ⌜ Good (stateOf i) ⌝ }
+    ensures { λ r. ⌜ Good (stateOf r) ⌝ }
 {
     if body.len() < 4 {
         print_cut();
-        return;
+        return i;
     }
-    let queues = octets::read_u32(body, 0);
-    let answer = backend::set_up(numbers, header, payload, ack, key, entries, queues);
-    print_set_up(answer);
+    set_up_with(i, octets::read_u32(body, 0))
+}
+
+fn set_up_with(i: Interface, queues: u32) -> Interface
+    requires { ⌜ Good (stateOf i) ⌝ }
+    ensures { λ r. ⌜ Good (stateOf r) ⌝ }
+{
+    let mut numbers = i.numbers;
+    let mut header = i.header;
+    let mut payload = i.payload;
+    let mut ack = i.ack;
+    let mut key = i.key;
+    let mut entries = i.entries;
+    print_set_up(backend::set_up(
+        &mut numbers,
+        &mut header,
+        &mut payload,
+        &mut ack,
+        &mut key,
+        &mut entries,
+        queues,
+    ));
+    Interface {
+        numbers,
+        header,
+        payload,
+        ack,
+        key,
+        entries,
+    }
 }
 
 fn print_set_up(answer: SetUpAnswer) {
@@ -103,46 +85,79 @@ fn print_set_up(answer: SetUpAnswer) {
 }
 
 // An event on so many octets of the buffer. The line has all octets, those behind the lent ones too.
-fn host_event<'a>(
-    numbers: &'a mut [u64; NUMBERS],
-    header: &'a mut [u8; HEADER],
-    payload: &'a mut [u8; MAX_PAYLOAD],
-    ack: &'a mut [u8; MAX_ACK],
-    key: &'a mut [u8; KEY_LENGTH],
-    entries: &'a mut [u8; MAX_ENTRIES],
-    page: &mut [u8],
-    body: &[u8],
-)
-    requires { ⌜ Good (interfaceIn (now numbers) (now header) (now payload) (now ack) (now key) (now entries)) ⌝ }
-    ensures { λ _. ⌜ Good (interfaceIn (now (numbers .exit)) (now (header .exit)) (now (payload .exit)) (now (ack .exit)) (now (key .exit))
-        (now (entries .exit))) ⌝ }
+pub fn event(i: Interface, page: &mut [u8], body: &[u8]) -> Interface
+    requires { ⌜ Good (stateOf i) ⌝ }
+    ensures { λ r. ⌜ Good (stateOf r) ⌝ }
 {
     if body.len() < 2 {
         print_cut();
-        return;
+        return i;
     }
     let n = number_at(body, 0);
     if n > page.len() {
         print_cut();
-        return;
+        return i;
     }
-    let answer = backend::event(numbers, header, payload, ack, key, entries, &mut page[0..n]);
-    print_event(answer, numbers, key, entries, &page[..]);
+    let answered = event_on(i, &mut page[0..n]);
+    print_event(answered, &page[..]);
+    answered.interface
 }
 
-// The answer, the interface's own counts, all octets of the buffer, and the settings.
-fn print_event(
+// What an event answers, and the interface that it leaves.
+struct Answered {
     answer: EventAnswer,
-    numbers: &[u64; NUMBERS],
-    key: &[u8; KEY_LENGTH],
-    entries: &[u8; MAX_ENTRIES],
-    page: &[u8],
-) {
-    print_number(b"answer ", number_of(answer));
-    print_number(b" req_cons ", numbers[OWN_REQ_CONS]);
-    print_number(b" rsp_prod ", numbers[OWN_RSP_PROD]);
-    print_digest(b" page ", page);
-    print_settings(numbers[FLAGS], numbers[ENTRY_COUNT], key, entries);
+    interface: Interface,
+}
+
+fn event_on(i: Interface, page: &mut [u8]) -> Answered
+    requires { ⌜ Good (stateOf i) ⌝ }
+    ensures { λ r. ⌜ Good (stateOf (r .interface)) ⌝ }
+{
+    let mut numbers = i.numbers;
+    let mut header = i.header;
+    let mut payload = i.payload;
+    let mut ack = i.ack;
+    let mut key = i.key;
+    let mut entries = i.entries;
+    let answer = backend::event(
+        &mut numbers,
+        &mut header,
+        &mut payload,
+        &mut ack,
+        &mut key,
+        &mut entries,
+        page,
+    );
+    Answered {
+        answer,
+        interface: Interface {
+            numbers,
+            header,
+            payload,
+            ack,
+            key,
+            entries,
+        },
+    }
+}
+
+// The answer, the interface's own counts, all octets of the buffer, and the settings but for the queue count.
+fn print_event(answered: Answered, page: &[u8]) {
+    let answer = answered.answer;
+    let i = answered.interface;
+    print_form(
+        b"answer # req_cons # rsp_prod # page $ flags # entries # key $ table $\n",
+        &[
+            number_of(answer),
+            i.numbers[OWN_REQ_CONS],
+            i.numbers[OWN_RSP_PROD],
+            digest(page),
+            i.numbers[FLAGS],
+            i.numbers[ENTRY_COUNT],
+            digest(&i.key),
+            digest(&i.entries),
+        ],
+    );
 }
 
 fn number_of(answer: EventAnswer) -> u64 {
@@ -156,16 +171,16 @@ fn number_of(answer: EventAnswer) -> u64 {
     }
 }
 
-// Takes the interface's own counts from the page. A good interface stays good, whatever its other parts are.
-fn recount(numbers: &mut [u64; NUMBERS], page: &[u8])
-    requires { ⌜ length (now page) ≡ 4160 ⌝ }
-    ensures { λ _. ⌜ ((header payload ack key entries : List ℕ)
-        → Good (interfaceIn (now (numbers .entry)) header payload ack key entries)
-        → Good (interfaceIn (now (numbers .exit)) header payload ack key entries)) ⌝ }
+// Takes the interface's own counts from the page, so that a case can begin near their end.
+pub fn recount(i: Interface, page: &[u8]) -> Interface
+    requires { ⌜ Good (stateOf i) × (length (now page) ≡ 4160) ⌝ }
+    ensures { λ r. ⌜ Good (stateOf r) ⌝ }
 {
-    let req_cons = octets::read_u32(page, REQ_CONS);
-    let rsp_prod = octets::read_u32(page, RSP_PROD);
-    let held = &mut numbers[..];
-    held[OWN_REQ_CONS] = req_cons as u64;
-    held[OWN_RSP_PROD] = rsp_prod as u64;
+    let n = i.numbers;
+    let req_cons = octets::read_u32(page, REQ_CONS) as u64;
+    let rsp_prod = octets::read_u32(page, RSP_PROD) as u64;
+    let numbers = [n[0], n[1], n[2], n[3], req_cons, n[5], n[6], rsp_prod];
+    let mut left = i;
+    left.numbers = numbers;
+    left
 }

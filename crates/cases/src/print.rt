@@ -23,13 +23,45 @@ pub fn print_hex(name: &[u8], n: u64) {
     io::print_hex(STDOUT_FILENO, n, 8);
 }
 
+// Prints a line by its form: each `#` stands for the decimal digits of the next number, and each `$` for eight hexadecimal
+// digits of it.
+pub fn print_form(form: &[u8], numbers: &[u64]) {
+    let mut printed: usize = 0;
+    let mut next: usize = 0;
+    for i in 0..form.len() {
+        let octet = form[i];
+        if is_mark(octet) {
+            print_word(&form[printed..i]);
+            print_next(octet, numbers, next);
+            printed = i + 1;
+            next += 1;
+        }
+    }
+    print_word(&form[printed..]);
+}
+
+fn is_mark(octet: u8) -> bool {
+    octet == b'#' || octet == b'$'
+}
+
+fn print_next(mark: u8, numbers: &[u64], next: usize) {
+    if numbers.len() <= next {
+        return;
+    }
+    if mark == b'#' {
+        io::print_decimal(STDOUT_FILENO, numbers[next]);
+    } else {
+        io::print_hex(STDOUT_FILENO, numbers[next], 8);
+    }
+}
+
 // What is too long for a line is given by its digest.
 pub fn print_digest(name: &[u8], octets: &[u8]) {
     print_hex(name, digest(octets));
 }
 
 // A number below 2^32 that depends on every octet and its place.
-fn digest(octets: &[u8]) -> u64 {
+pub fn digest(octets: &[u8]) -> u64 {
     let mut sum: u64 = 0;
     let mut i: usize = 0;
     while i < octets.len() {

@@ -1,6 +1,5 @@
 // What the guest does to the page between the calls.
 ghost use Rattle.octets.specs.Prelude.{_≡_, length};
-use crate::COUNTS;
 use cases::fill;
 use cases::patch;
 use cases::print_cut;
@@ -11,8 +10,8 @@ use page::REQUESTS;
 use page::RSP_CONS;
 use page::RSP_PROD;
 
-// The kinds: octets put at a place, octets made there, octets sent, octets of acks taken, and other counts. Those between are
-// not the guest's.
+// The kinds: octets put at a place, octets made there, octets sent, and octets of acks taken. Those between are not the
+// guest's alone.
 const PATCH: u8 = 1;
 
 const FILL: u8 = 2;
@@ -24,16 +23,12 @@ const TAKE: u8 = 6;
 pub(crate) fn act(page: &mut [u8], kind: u8, body: &[u8])
     requires { ⌜ length (now page) ≡ 4160 ⌝ }
 {
-    if kind == PATCH {
-        patch(page, body);
-    } else if kind == FILL {
-        fill(page, body);
-    } else if kind == SEND {
-        send(page, body);
-    } else if kind == TAKE {
-        take(page, body);
-    } else if kind == COUNTS {
-        empty_areas(page, body);
+    match kind {
+        PATCH => patch(page, body),
+        FILL => fill(page, body),
+        SEND => send(page, body),
+        TAKE => take(page, body),
+        _ => {}
     }
 }
 
@@ -66,7 +61,7 @@ fn take(page: &mut [u8], body: &[u8])
 }
 
 // Counts by which nothing stands unread in either area. The interface then takes its own two from the page.
-fn empty_areas(page: &mut [u8], body: &[u8])
+pub(crate) fn empty_areas(page: &mut [u8], body: &[u8])
     requires { ⌜ length (now page) ≡ 4160 ⌝ }
 {
     if body.len() < 8 {

@@ -1,25 +1,37 @@
-// The guest's part in the cases. The parts of the guest are lent.
-ghost use Rattle.octets.specs.Prelude.{_≡_, List, ℕ, _≤_, length};
-ghost use Rattle.guest_steps.specs.Guest.{Good, guestIn};
-use crate::lines::print_called;
+// The guest's part in the cases, and the lines that it prints. A guest is passed by value, and its parts are lent only to the
+// library's call itself.
+ghost use Rattle.octets.specs.Prelude.{_≡_, _≤_, length};
+ghost use Rattle.guest_steps.specs.Guest.{Good, stateOf};
 use cases::MAX_GIVEN;
+use cases::digest;
 use cases::entries_in;
+use cases::fill;
 use cases::number_at;
+use cases::patch;
 use cases::print_cut;
+use cases::print_form;
+use cases::print_number;
 use cases::print_word;
+use guest_messages::NOT_AN_ACK;
+use guest_messages::VALUE_NOT_LISTED;
 use guest_steps::Ask;
+use guest_steps::Guest;
 use guest_steps::GuestAnswer;
 use guest_steps::MAX_ACK_PAYLOAD;
 use guest_steps::MAX_REQUEST;
 use guest_steps::NUMBERS;
 use guest_steps::OWN_REQ_PROD;
 use guest_steps::OWN_RSP_CONS;
+use guest_steps::PHASE;
+use guest_steps::REQUEST_OUTSTANDING;
+use guest_steps::Refusal;
 use messages::HEADER;
 use page::REQ_PROD;
 use page::RSP_CONS;
+use toeplitz::KEY_LENGTH_WRONG;
 
-// The kinds: a new guest, the four starts, between them and other counts an event, and octets put into the buffer. Those
-// between are the host's.
+// The kinds: a new guest, the four starts, an event, other counts, and octets put into the buffer. Those between are the
+// host's.
 const SET_UP: u8 = 0;
 
 const START_GET_FLAGS: u8 = 1;
@@ -28,7 +40,7 @@ const START_SET_FLAGS: u8 = 2;
 
 const START_SET_KEY: u8 = 3;
 
-const START_SET_MAPPING: u8 = 4;
+const EVENT: u8 = 5;
 
 // The page has other counts, and both ends take their own from it.
 pub(crate) const COUNTS: u8 = 6;
@@ -37,107 +49,145 @@ const PATCH: u8 = 9;
 
 const FILL: u8 = 10;
 
-// A new guest.
-pub(crate) fn set_up<'a>(
-    numbers: &'a mut [u64; NUMBERS],
-    request: &'a mut [u8; MAX_REQUEST],
-    header: &'a mut [u8; HEADER],
-    payload: &'a mut [u8; MAX_ACK_PAYLOAD],
-)
-    ensures { λ _. ⌜ Good (guestIn (now (numbers .exit)) (now (request .exit)) (now (header .exit)) (now (payload .exit))) ⌝ }
+// A new guest, from arrays in which setup has every octet to write.
+pub(crate) fn new_guest() -> Guest
+    ensures { λ r. ⌜ Good (stateOf r) ⌝ }
 {
-    frontend::set_up(numbers, request, header, payload);
+    let mut numbers = [255; NUMBERS];
+    let mut request = [255; MAX_REQUEST];
+    let mut header = [255; HEADER];
+    let mut payload = [255; MAX_ACK_PAYLOAD];
+    frontend::set_up(&mut numbers, &mut request, &mut header, &mut payload);
+    Guest {
+        numbers,
+        request,
+        header,
+        payload,
+    }
 }
 
 // Answers one case.
-pub(crate) fn answer<'a>(
-    numbers: &'a mut [u64; NUMBERS],
-    request: &'a mut [u8; MAX_REQUEST],
-    header: &'a mut [u8; HEADER],
-    payload: &'a mut [u8; MAX_ACK_PAYLOAD],
-    page: &mut [u8],
-    kind: u8,
-    body: &[u8],
-)
-    requires { ⌜ Good (guestIn (now numbers) (now request) (now header) (now payload)) × (length (now page) ≡ 4160) ⌝ }
-    ensures { λ _. ⌜ Good (guestIn (now (numbers .exit)) (now (request .exit)) (now (header .exit)) (now (payload .exit))) ⌝ }
+pub(crate) fn answer(g: Guest, page: &mut [u8], kind: u8, body: &[u8]) -> Guest
+    requires { ⌜ Good (stateOf g) × (length (now page) ≡ 4160) ⌝ }
+    ensures { λ r. ⌜ Good (stateOf r) ⌝ }
 {
-    if kind == SET_UP {
-        print_word(b"guest set up\n");
-        set_up(numbers, request, header, payload);
-    } else if kind < COUNTS {
-        call(numbers, request, header, payload, page, kind, body);
-    } else if kind == COUNTS {
-        cases::patch(page, body);
-        recount(numbers, &page[..]);
-    } else if kind == PATCH {
-        cases::patch(page, body);
-    } else if kind == FILL {
-        cases::fill(page, body);
+    match kind {
+        SET_UP => {
+            print_word(b"guest set up\n");
+            new_guest()
+        }
+        START_GET_FLAGS..=EVENT => call(g, page, kind, body),
+        COUNTS => {
+            patch(page, body);
+            recount(g, &page[..])
+        }
+        PATCH => {
+            patch(page, body);
+            g
+        }
+        FILL => {
+            fill(page, body);
+            g
+        }
+        _ => g,
     }
 }
 
 // A call on so many octets of the buffer. The line has all octets, those behind the lent ones too.
-fn call<'a>(
-    numbers: &'a mut [u64; NUMBERS],
-    request: &'a mut [u8; MAX_REQUEST],
-    header: &'a mut [u8; HEADER],
-    payload: &'a mut [u8; MAX_ACK_PAYLOAD],
-    page: &mut [u8],
-    kind: u8,
-    body: &[u8],
-)
-    requires { ⌜ Good (guestIn (now numbers) (now request) (now header) (now payload)) ⌝ }
-    ensures { λ _. ⌜ Good (guestIn (now (numbers .exit)) (now (request .exit)) (now (header .exit)) (now (payload .exit))) ⌝ }
+fn call(g: Guest, page: &mut [u8], kind: u8, body: &[u8]) -> Guest
+    requires { ⌜ Good (stateOf g) ⌝ }
+    ensures { λ r. ⌜ Good (stateOf r) ⌝ }
 {
     if body.len() < 2 {
         print_cut();
-        return;
+        return g;
     }
     let n = number_at(body, 0);
     if n > page.len() {
         print_cut();
-        return;
+        return g;
     }
-    let lent = &mut page[0..n];
-    let answer = called(numbers, request, header, payload, lent, kind, &body[2..]);
-    print_called(answer, numbers, &page[..]);
+    let called = call_on(g, &mut page[0..n], kind, &body[2..]);
+    print_called(called, &page[..]);
+    called.guest
 }
 
-fn called<'a>(
-    numbers: &'a mut [u64; NUMBERS],
-    request: &'a mut [u8; MAX_REQUEST],
-    header: &'a mut [u8; HEADER],
-    payload: &'a mut [u8; MAX_ACK_PAYLOAD],
-    page: &mut [u8],
-    kind: u8,
-    given: &[u8],
-) -> GuestAnswer
-    requires { ⌜ Good (guestIn (now numbers) (now request) (now header) (now payload)) ⌝ }
-    ensures { λ _. ⌜ Good (guestIn (now (numbers .exit)) (now (request .exit)) (now (header .exit)) (now (payload .exit))) ⌝ }
+// What a call answers, and the guest that it leaves.
+struct Called {
+    answer: GuestAnswer,
+    guest: Guest,
+}
+
+fn call_on(g: Guest, page: &mut [u8], kind: u8, given: &[u8]) -> Called
+    requires { ⌜ Good (stateOf g) ⌝ }
+    ensures { λ r. ⌜ Good (stateOf (r .guest)) ⌝ }
 {
-    if kind > START_SET_MAPPING {
-        return frontend::event(numbers, request, header, payload, page);
+    if kind == EVENT {
+        return event(g, page);
     }
-    let ask = ask_in(kind, given);
-    let count = count_in(given);
-    let entries = entries_behind(given, count);
-    let mapping = &entries[0..count];
-    frontend::start(numbers, request, header, payload, page, ask, given, mapping)
+    let mapping = mapping_in(given);
+    let count = mapping.count;
+    let entries = mapping.entries;
+    start(g, page, ask_in(kind, given), given, &entries[0..count])
+}
+
+fn event(g: Guest, page: &mut [u8]) -> Called
+    requires { ⌜ Good (stateOf g) ⌝ }
+    ensures { λ r. ⌜ Good (stateOf (r .guest)) ⌝ }
+{
+    let mut numbers = g.numbers;
+    let request = g.request;
+    let mut header = g.header;
+    let mut payload = g.payload;
+    let answer = frontend::event(&mut numbers, &request, &mut header, &mut payload, page);
+    Called {
+        answer,
+        guest: Guest {
+            numbers,
+            request,
+            header,
+            payload,
+        },
+    }
+}
+
+fn start(g: Guest, page: &mut [u8], ask: Ask, key: &[u8], entries: &[u64]) -> Called
+    requires { ⌜ Good (stateOf g) ⌝ }
+    ensures { λ r. ⌜ Good (stateOf (r .guest)) ⌝ }
+{
+    let mut numbers = g.numbers;
+    let mut request = g.request;
+    let header = g.header;
+    let payload = g.payload;
+    let answer = frontend::start(
+        &mut numbers,
+        &mut request,
+        &header,
+        &payload,
+        page,
+        ask,
+        key,
+        entries,
+    );
+    Called {
+        answer,
+        guest: Guest {
+            numbers,
+            request,
+            header,
+            payload,
+        },
+    }
 }
 
 // What a start asks for. A key is what is given, and a mapping has the entries behind their number.
 fn ask_in(kind: u8, given: &[u8]) -> Ask {
-    if kind == START_GET_FLAGS {
-        return Ask::GetFlags;
+    match kind {
+        START_GET_FLAGS => Ask::GetFlags,
+        START_SET_FLAGS => Ask::SetFlags(flags_in(given)),
+        START_SET_KEY => Ask::SetKey,
+        _ => Ask::SetMapping,
     }
-    if kind == START_SET_FLAGS {
-        return Ask::SetFlags(flags_in(given));
-    }
-    if kind == START_SET_KEY {
-        return Ask::SetKey;
-    }
-    Ask::SetMapping
 }
 
 fn flags_in(given: &[u8]) -> u64 {
@@ -147,38 +197,78 @@ fn flags_in(given: &[u8]) -> u64 {
     octets::read_u64(given, 0)
 }
 
-fn count_in(given: &[u8]) -> usize
-    ensures { λ r. ⌜ r ≤ 256 ⌝ }
+struct Mapping {
+    count: usize,
+    entries: [u64; MAX_GIVEN],
+}
+
+// So many entries, of which as many are given as are not those before once more. None where their number is cut short or too
+// high.
+fn mapping_in(given: &[u8]) -> Mapping
+    ensures { λ r. ⌜ r .count ≤ length (r .entries) ⌝ }
 {
     if given.len() < 2 {
-        return 0;
+        return Mapping {
+            count: 0,
+            entries: entries_in(given, 0),
+        };
     }
     let count = number_at(given, 0);
     if count > MAX_GIVEN {
-        return 0;
+        return Mapping {
+            count: 0,
+            entries: entries_in(given, 0),
+        };
     }
-    count
+    Mapping {
+        count,
+        entries: entries_in(&given[2..], count),
+    }
 }
 
-// So many entries, of which as many are given as are not those before once more.
-fn entries_behind(given: &[u8], count: usize) -> [u64; MAX_GIVEN]
-    requires { ⌜ count ≤ 256 ⌝ }
-{
-    if given.len() < 2 {
-        return entries_in(given, count);
-    }
-    entries_in(&given[2..], count)
+// The answer, the guest's phase and own counts, and all octets of the buffer.
+fn print_called(called: Called, page: &[u8]) {
+    let answer = called.answer;
+    let n = called.guest.numbers;
+    print_answer(answer);
+    print_form(
+        b" phase # req_prod # rsp_cons # page $\n",
+        &[n[PHASE], n[OWN_REQ_PROD], n[OWN_RSP_CONS], digest(page)],
+    );
 }
 
-// Takes the counts of the guest's own from the page, so that a case can begin near their end.
-fn recount(numbers: &mut [u64; NUMBERS], page: &[u8])
-    requires { ⌜ length (now page) ≡ 4160 ⌝ }
-    ensures { λ _. ⌜ ((request header payload : List ℕ) → Good (guestIn (now (numbers .entry)) request header payload)
-        → Good (guestIn (now (numbers .exit)) request header payload)) ⌝ }
+fn print_answer(answer: GuestAnswer) {
+    match answer {
+        GuestAnswer::Pending => print_word(b"guest 0"),
+        GuestAnswer::RequestOwed => print_word(b"guest 2"),
+        GuestAnswer::AckedStatus(status) => print_number(b"guest 1 status ", status as u64),
+        GuestAnswer::AckedFlags(flags) => print_number(b"guest 1 status 0 flags ", flags as u64),
+        GuestAnswer::Refused(refusal) => print_number(b"guest ", number_of(refusal) as u64),
+    }
+}
+
+fn number_of(refusal: Refusal) -> u32 {
+    match refusal {
+        Refusal::PageLength => 3,
+        Refusal::RequestCount => 4,
+        Refusal::ResponseCount => 5,
+        Refusal::AckRefused => NOT_AN_ACK,
+        Refusal::Outstanding => REQUEST_OUTSTANDING,
+        Refusal::KeyRefused => KEY_LENGTH_WRONG,
+        Refusal::ValueRefused => VALUE_NOT_LISTED,
+    }
+}
+
+// Takes the guest's own counts from the page, so that a case can begin near their end.
+fn recount(g: Guest, page: &[u8]) -> Guest
+    requires { ⌜ Good (stateOf g) × (length (now page) ≡ 4160) ⌝ }
+    ensures { λ r. ⌜ Good (stateOf r) ⌝ }
 {
-    let req_prod = octets::read_u32(page, REQ_PROD);
-    let rsp_cons = octets::read_u32(page, RSP_CONS);
-    let held = &mut numbers[..];
-    held[OWN_REQ_PROD] = req_prod as u64;
-    held[OWN_RSP_CONS] = rsp_cons as u64;
+    let n = g.numbers;
+    let req_prod = octets::read_u32(page, REQ_PROD) as u64;
+    let rsp_cons = octets::read_u32(page, RSP_CONS) as u64;
+    let numbers = [n[0], n[1], n[2], req_prod, n[4], rsp_cons];
+    let mut left = g;
+    left.numbers = numbers;
+    left
 }

@@ -1,6 +1,7 @@
 // The lines that the program prints.
-use answer_text::print_settings;
-use cases::print_digest;
+use crate::Settings;
+use cases::digest;
+use cases::print_form;
 use cases::print_number;
 use cases::print_word;
 use cases::wide;
@@ -11,22 +12,22 @@ use guest_messages::VALUE_NOT_LISTED;
 use guest_messages::Written;
 use libc::STDOUT_FILENO;
 use messages::MAX_ACK;
-use messages::Numbers;
 use toeplitz::KEY_LENGTH_WRONG;
 
 // The octets of the ack, and the settings left.
-pub(crate) fn print_carried(
-    carried: Numbers,
-    queues: u8,
-    ack: &[u8; MAX_ACK],
-    key: &[u8],
-    entries: &[u8],
-) {
-    print_number(b"ack ", carried.ack_length as u64);
-    print_word(b" ");
+pub(crate) fn print_carried(left: Settings, ack_length: u64, ack: &[u8; MAX_ACK]) {
+    print_form(b"ack # ", &[ack_length]);
     print_octets(ack);
-    print_number(b" queues ", queues as u64);
-    print_settings(carried.flags as u64, carried.count as u64, key, entries);
+    print_form(
+        b" queues # flags # entries # key $ table $\n",
+        &[
+            left.queues as u64,
+            left.flags as u64,
+            left.count as u64,
+            digest(&left.key),
+            digest(&left.entries),
+        ],
+    );
 }
 
 fn print_octets(octets: &[u8]) {
@@ -45,8 +46,7 @@ pub(crate) fn print_written(written: Written, buffer: &[u8]) {
         Written::Value => print_number(b"refused ", VALUE_NOT_LISTED as u64),
         Written::Buffer => print_number(b"refused ", BUFFER_TOO_SHORT as u64),
     }
-    print_digest(b" buffer ", buffer);
-    print_word(b"\n");
+    print_form(b" buffer $\n", &[digest(buffer)]);
 }
 
 pub(crate) fn print_ack_answer(answer: AckAnswer) {

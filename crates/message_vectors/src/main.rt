@@ -1,5 +1,5 @@
 // Runs the cases of its files, one file after the other, and prints a line for each. Cases of requests act on the settings of
-// one interface, one after the other. Its numbers, key and mapping entries stand in `main`, and are lent.
+// one interface, one after the other.
 ghost use Rattle.octets.specs.Prelude.{_≤_, length};
 
 mod answers;
@@ -7,212 +7,175 @@ mod answers;
 use answers::print_ack_answer;
 use answers::print_carried;
 use answers::print_written;
-use cases::Case;
 use cases::MAX_GIVEN;
 use cases::PARTS;
-use cases::case_at;
 use cases::entries_in;
 use cases::number_at;
 use cases::print_cut;
+use cases::take_case;
 use guest_messages::Written;
 use messages::MAX_ACK;
 use messages::MAX_ENTRIES;
 use messages::MAX_PAYLOAD;
 use toeplitz::KEY_LENGTH;
 
-// The kinds: a new interface with a queue count, a request carried out, the writer's four calls, and an ack
-// read.
+// The kinds: a new interface with a queue count, a request carried out, the writer's four calls, and an ack read.
 const SET_UP: u8 = 0;
 
 const REQUEST: u8 = 1;
 
 const WRITE_GET_FLAGS: u8 = 2;
 
-const WRITE_SET_FLAGS: u8 = 3;
-
 const WRITE_SET_KEY: u8 = 4;
 
 const WRITE_SET_MAPPING: u8 = 5;
 
+const READ: u8 = 6;
+
 // The longest output buffer of a case.
 const MAX_BUFFER: usize = 1100;
 
-// The places of the numbers: queues in operation, flags, and mapping entries.
-const QUEUES: usize = 0;
-
-const FLAGS: usize = 1;
-
-const COUNT: usize = 2;
-
-const NUMBERS: usize = 3;
+// The settings of an interface.
+pub(crate) struct Settings {
+    queues: u8,
+    flags: u8,
+    count: u8,
+    key: [u8; KEY_LENGTH],
+    entries: [u8; MAX_ENTRIES],
+}
 
 fn main() {
     let mut buffer = io::large_buffer();
-    let mut numbers = at_setup(1);
-    let mut key = [0u8; KEY_LENGTH];
-    let mut entries = [0u8; MAX_ENTRIES];
+    let mut settings = at_setup(1);
     for part in 0..PARTS {
+        // A file that is not there has no case.
         let n = cases::load_part(part, &mut buffer);
-        if n == 0 {
-            return;
-        }
-        run(&mut numbers, &mut key, &mut entries, &buffer[..n]);
+        settings = run(settings, &buffer[..n]);
     }
 }
 
 // No flags, and a mapping of one entry.
-fn at_setup(queues: u8) -> [u8; NUMBERS] {
-    [queues, 0, 1]
+fn at_setup(queues: u8) -> Settings {
+    Settings {
+        queues,
+        flags: 0,
+        count: 1,
+        key: [0; KEY_LENGTH],
+        entries: [0; MAX_ENTRIES],
+    }
 }
 
 // Runs the cases of one file on the settings that those before it left.
-fn run(
-    numbers: &mut [u8; NUMBERS],
-    key: &mut [u8; KEY_LENGTH],
-    entries: &mut [u8; MAX_ENTRIES],
-    cases: &[u8],
-) {
+fn run(first: Settings, cases: &[u8]) -> Settings {
+    let mut settings = first;
     let mut at: usize = 0;
     while at < cases.len() {
-        let case = case_at(cases, at);
-        match case {
-            Case::Body { start, end } => {
-                let kind = cases[at];
-                let body = &cases[start..end];
-                answer(numbers, key, entries, kind, body);
-                at = end;
-            }
-            Case::Cut => {
-                print_cut();
-                return;
-            }
-        }
+        let taken = take_case(cases, at);
+        let start = taken.start;
+        let end = taken.end;
+        settings = answer(settings, taken.kind, &cases[start..end]);
+        at = end;
     }
+    settings
 }
 
 // Answers one case.
-fn answer(
-    numbers: &mut [u8; NUMBERS],
-    key: &mut [u8; KEY_LENGTH],
-    entries: &mut [u8; MAX_ENTRIES],
-    kind: u8,
-    body: &[u8],
-) {
-    if kind == SET_UP {
-        set_up(numbers, key, entries, body);
-    } else if kind == REQUEST {
-        request(numbers, key, entries, body);
-    } else if body.len() < 2 {
-        print_cut();
-    } else if kind <= WRITE_SET_MAPPING {
+fn answer(settings: Settings, kind: u8, body: &[u8]) -> Settings {
+    if kind == SET_UP && body.len() > 0 {
+        return at_setup(body[0]);
+    }
+    if kind == REQUEST {
+        return request(settings, body);
+    }
+    if WRITE_GET_FLAGS <= kind && kind <= WRITE_SET_MAPPING {
         write(kind, body);
-    } else {
+    } else if kind == READ {
         read(body);
     }
+    settings
 }
 
-fn set_up(
-    numbers: &mut [u8; NUMBERS],
-    key: &mut [u8; KEY_LENGTH],
-    entries: &mut [u8; MAX_ENTRIES],
-    body: &[u8],
-) {
-    if body.len() < 1 {
-        return;
-    }
-    *numbers = at_setup(body[0]);
-    *key = [0; KEY_LENGTH];
-    *entries = [0; MAX_ENTRIES];
-}
-
-// Type, size and kept payload. What stands behind the payload in the buffer is not to be looked at.
-fn request(
-    numbers: &mut [u8; NUMBERS],
-    key: &mut [u8; KEY_LENGTH],
-    entries: &mut [u8; MAX_ENTRIES],
-    body: &[u8],
-) {
+// Type, size and kept payload.
+fn request(settings: Settings, body: &[u8]) -> Settings {
     if body.len() < 8 {
-        return;
+        return settings;
     }
     if body.len() - 8 > MAX_PAYLOAD {
-        return;
+        return settings;
     }
-    let payload = payload_of(&body[8..]);
     let kind = octets::read_u32(body, 0);
     let size = octets::read_u32(body, 4);
-    let queues = numbers[QUEUES];
-    let flags = numbers[FLAGS];
-    let count = numbers[COUNT];
-    let mut ack = [0u8; MAX_ACK];
-    let carried = requests::carry_out(
-        queues,
-        flags,
-        count,
-        key,
-        entries,
-        kind,
-        size,
-        &payload,
-        &mut ack,
-    );
-    *numbers = [queues, carried.flags, carried.count];
-    print_carried(carried, queues, &ack, key, entries);
+    let payload = payload_of(&body[8..]);
+    carry_out(settings, kind, size, &payload)
 }
 
-// What stands in the host's buffer before a payload comes.
-fn filled() -> [u8; MAX_PAYLOAD] {
-    [238; MAX_PAYLOAD]
-}
-
+// What stands behind the payload in the buffer is not to be looked at.
 fn payload_of(kept: &[u8]) -> [u8; MAX_PAYLOAD]
     requires { ⌜ length (now kept) ≤ 1024 ⌝ }
 {
-    let mut payload = filled();
-    let mut i: usize = 0;
-    while i < kept.len() {
-        payload[i] = kept[i];
-        i += 1;
-    }
+    let mut payload = [238; MAX_PAYLOAD];
+    let n = kept.len();
+    octets::copy(&mut payload[0..n], kept);
     payload
 }
 
-// The length of the output buffer, and what the request is to say.
-fn write(kind: u8, body: &[u8])
-    requires { ⌜ 2 ≤ length (now body) ⌝ }
-{
+fn carry_out(settings: Settings, kind: u32, size: u32, payload: &[u8; MAX_PAYLOAD]) -> Settings {
+    let queues = settings.queues;
+    let mut key = settings.key;
+    let mut entries = settings.entries;
+    let mut ack = [0; MAX_ACK];
+    let carried = messages::carry_out(
+        queues,
+        settings.flags,
+        settings.count,
+        &mut key,
+        &mut entries,
+        kind,
+        size,
+        payload,
+        &mut ack,
+    );
+    let left = Settings {
+        queues,
+        flags: carried.flags,
+        count: carried.count,
+        key,
+        entries,
+    };
+    print_carried(left, carried.ack_length as u64, &ack);
+    left
+}
+
+// The length of the output buffer, and what the request is to say. Octets that are not zero stand in the buffer before.
+fn write(kind: u8, body: &[u8]) {
+    if body.len() < 2 {
+        print_cut();
+        return;
+    }
     let room = number_at(body, 0);
     if room > MAX_BUFFER {
         print_cut();
         return;
     }
-    let mut buffer = blank();
-    write_start(&mut buffer, room, kind, &body[2..]);
+    let mut buffer = [165; MAX_BUFFER];
+    write_and_print(&mut buffer[0..room], kind, &body[2..]);
 }
 
-// What stands in the output buffer before the message.
-fn blank() -> [u8; MAX_BUFFER] {
-    [165; MAX_BUFFER]
-}
-
-// Writes into the first `room` octets of the buffer.
-fn write_start(buffer: &mut [u8], room: usize, kind: u8, given: &[u8])
-    requires { ⌜ room ≤ length (now buffer) ⌝ }
-{
-    let written = write_into(&mut buffer[0..room], kind, given);
-    print_written(written, &buffer[0..room]);
+fn write_and_print(buffer: &mut [u8], kind: u8, given: &[u8]) {
+    let written = write_into(buffer, kind, given);
+    print_written(written, &buffer[..]);
 }
 
 fn write_into(buffer: &mut [u8], kind: u8, given: &[u8]) -> Written {
-    if kind == WRITE_GET_FLAGS {
-        return guest_messages::write_get_flags(buffer);
+    match kind {
+        WRITE_GET_FLAGS => guest_messages::write_get_flags(buffer),
+        WRITE_SET_KEY => guest_messages::write_set_key(buffer, given),
+        WRITE_SET_MAPPING => write_mapping(buffer, given),
+        _ => write_flags(buffer, given),
     }
-    if kind == WRITE_SET_KEY {
-        return guest_messages::write_set_key(buffer, given);
-    }
-    if kind == WRITE_SET_MAPPING {
-        return write_mapping(buffer, given);
-    }
+}
+
+fn write_flags(buffer: &mut [u8], given: &[u8]) -> Written {
     if given.len() < 8 {
         return Written::Value;
     }
@@ -225,13 +188,6 @@ fn write_mapping(buffer: &mut [u8], given: &[u8]) -> Written {
         return Written::Value;
     }
     let entries = entries_in(given, count);
-    write_first(buffer, &entries, count)
-}
-
-// The mapping of the first `count` entries.
-fn write_first(buffer: &mut [u8], entries: &[u64], count: usize) -> Written
-    requires { ⌜ count ≤ length (now entries) ⌝ }
-{
     guest_messages::write_set_mapping(buffer, &entries[0..count])
 }
 

@@ -5,12 +5,8 @@ use Rattle.messages.proofs.Powers.{listed-parts}
 use Rattle.event_vectors.proofs.packet.Statement.{statement}
 use Rattle.event_vectors.proofs.packet.Tie as tie
 
-cast-count : tie.Need-cast-count
-cast-count c =
-    let start = c .before .before .before in
-    omega (arith, listed-parts _ .0 (start .pre .mapping .listed) .1)
-
 pub packet-spec : {M : Type 1} → statement M
 packet-spec =
-    tie.close (tie.spec (λ c. search needs) (λ c. search needs) (λ c. search needs) cast-count (λ c κs. search needs) (λ c κs. search needs)
-    (λ c. search needs))
+    tie.close (tie.spec (λ c. search needs) (λ c. search needs) (λ c. search needs)
+    (λ c. omega (arith, listed-parts _ .0 (c .before .before .before .pre .settings .mapping .listed) .1)) (λ c κs. search needs)
+    (λ c κs. search needs) (λ c. search needs))

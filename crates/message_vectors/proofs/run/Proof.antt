@@ -1,30 +1,17 @@
--- `message_vectors::run` ends and reads no octet outside: each case's body stands behind its start.
+-- `message_vectors::run` ends and reads no octet outside: each case ends behind its start.
 -- Assumes nothing.
-use Rattle.octets.specs.Prelude.{_≤_, _-_, arith, needs, length}
-use Rattle.cases.specs.Cases.{Within}
-use Rattle.cases.specs.declared.Case.the-variants.{Body}
+use Rattle.octets.specs.Prelude.{_≤_, _-_, needs, length}
 use Rattle.message_vectors.proofs.run.Statement.{statement}
 use Rattle.message_vectors.proofs.run.Tie as tie
 
 abbrev Inv-loop : tie.InvT-loop
-Inv-loop numbers₀ key₀ entries₀ cases at₀ numbers key entries at = at ≤ length cases
+Inv-loop cases settings₀ at₀ settings at =
+    at ≤ length cases
 
 abbrev μ-loop : tie.MeasureT-loop
-μ-loop numbers₀ key₀ entries₀ cases at₀ numbers key entries at = length cases - at
-
--- where the case was found whole
-module _ (d : tie.After-case Inv-loop μ-loop) where
-  body : Within (length (d .before .before .before .before .before .before .args .cases .now))
-      (d .before .before .before .before .loop .at) (Body (d .case .given .0 .0) (d .case .given .0 .1 .0))
-  body = rw (d .case .given .1) at (d .before .before .case-at .ensures)
-
--- the same, where it is answered
-abbrev found : tie.After-answer Inv-loop μ-loop → tie.After-case Inv-loop μ-loop
-found d = d .before .before .before .before .before .before .before
+μ-loop cases settings₀ at₀ settings at = length cases - at
 
 pub run-spec : {M : Type 1} → statement M
 run-spec =
     tie.close (tie.spec Inv-loop μ-loop (λ c. search needs) (λ c κs. search needs) (λ c. search needs) (λ c. search needs)
-    (λ c. omega (arith, body (c .before .before))) (λ c. omega (arith, body (c .before .before)))
-    (λ c. omega (arith, body (c .before .before))) (λ c κs. search needs) (λ c. omega (arith, body (found c)))
-    (λ c. omega (arith, body (found c))) (λ c. search needs) (λ c κs. search needs) (λ c. search needs) (λ c. search needs))
+    (λ c. search needs) (λ c κs. search needs) (λ c. search needs) (λ c. search needs) (λ c. search needs))

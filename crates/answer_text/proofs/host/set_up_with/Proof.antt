@@ -1,4 +1,4 @@
--- `answer_text::host::set_up_host` meets its contract: setup gives a good interface, or leaves the one that there is.
+-- `answer_text::host::set_up_with` meets its contract: setup gives a good interface, or leaves the one that there is.
 -- Assumes nothing.
 use Rattle.octets.specs.Prelude.{_≡_, _&&_, ℕ, leb, needs, leb-true}
 use Rattle.octets.specs.Outcome.{Outcome, placed, itself}
@@ -6,8 +6,8 @@ use Rattle.octets.proofs.Truth.{both-true, by-test}
 use Rattle.messages.specs.Settings.{maxQueues}
 use Rattle.interface.specs.States.{HostState, Good, setUpOutcome}
 use Rattle.backend.proofs.Goodness.{good-interface}
-use Rattle.answer_text.proofs.host.set_up_host.Statement.{statement}
-use Rattle.answer_text.proofs.host.set_up_host.Tie as tie
+use Rattle.answer_text.proofs.host.set_up_with.Statement.{statement}
+use Rattle.answer_text.proofs.host.set_up_with.Tie as tie
 
 placed-good : (q : ℕ) (s t : HostState) → Good s → t ≡ placed itself (setUpOutcome q) s → Good t
 unfolding setUpOutcome
@@ -17,13 +17,5 @@ placed-good q s t good left =
     (λ e. let x = both-true (leb 1 q) (leb q maxQueues) .0 e in good-interface q (leb-true _ _ (x .0)) (leb-true _ _ (x .1)))
     (λ e. good))
 
-returns-2 : tie.Need-returns-2
-returns-2 c =
-    let d = c .before in
-    let start = d .before .before .before .before .before .before .before .before .before .before in
-    placed-good _ _ _ (start .pre) (d .set-up .ensures .1)
-
-pub set-up-host-spec : {M : Type 1} → statement M
-set-up-host-spec =
-    tie.close (tie.spec (λ c κs. search needs) (λ c. search needs) (λ c κs. search needs) (λ c κs. search needs) (λ c κs. search needs)
-    returns-2)
+pub set-up-with-spec : {M : Type 1} → statement M
+set-up-with-spec = tie.close (tie.spec (λ c κs. search needs) (λ c κs. search needs) (λ c. search (needs, placed-good)))
