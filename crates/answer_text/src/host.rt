@@ -8,12 +8,11 @@ use cases::print_cut;
 use cases::print_form;
 use cases::print_word;
 use interface::ENTRY_COUNT;
-use interface::EventAnswer;
 use interface::FLAGS;
 use interface::Interface;
 use interface::OWN_REQ_CONS;
 use interface::OWN_RSP_PROD;
-use interface::SetUpAnswer;
+use interface::SET_UP;
 use messages::HEADER;
 use messages::MAX_ACK;
 use messages::MAX_ENTRIES;
@@ -58,7 +57,7 @@ fn set_up_with(i: Interface, queues: u32) -> Interface
     let mut ack = i.ack;
     let mut key = i.key;
     let mut entries = i.entries;
-    print_set_up(backend::set_up(
+    print_set_up(interface::set_up(
         &mut numbers,
         &mut header,
         &mut payload,
@@ -77,10 +76,11 @@ fn set_up_with(i: Interface, queues: u32) -> Interface
     }
 }
 
-fn print_set_up(answer: SetUpAnswer) {
-    match answer {
-        SetUpAnswer::Made => print_word(b"set up\n"),
-        SetUpAnswer::Queues => print_word(b"refused 6\n"),
+fn print_set_up(answer: u32) {
+    if answer == SET_UP {
+        print_word(b"set up\n");
+    } else {
+        print_form(b"refused #\n", &[answer as u64]);
     }
 }
 
@@ -105,7 +105,7 @@ pub fn event(i: Interface, page: &mut [u8], body: &[u8]) -> Interface
 
 // What an event answers, and the interface that it leaves.
 struct Answered {
-    answer: EventAnswer,
+    answer: u32,
     interface: Interface,
 }
 
@@ -148,7 +148,7 @@ fn print_event(answered: Answered, page: &[u8]) {
     print_form(
         b"answer # req_cons # rsp_prod # page $ flags # entries # key $ table $\n",
         &[
-            number_of(answer),
+            answer as u64,
             i.numbers[OWN_REQ_CONS],
             i.numbers[OWN_RSP_PROD],
             digest(page),
@@ -158,17 +158,6 @@ fn print_event(answered: Answered, page: &[u8]) {
             digest(&i.entries),
         ],
     );
-}
-
-fn number_of(answer: EventAnswer) -> u64 {
-    match answer {
-        EventAnswer::Waiting => 0,
-        EventAnswer::Written => 1,
-        EventAnswer::Owed => 2,
-        EventAnswer::PageLength => 3,
-        EventAnswer::RequestCount => 4,
-        EventAnswer::ResponseCount => 5,
-    }
 }
 
 // Takes the interface's own counts from the page, so that a case can begin near their end.

@@ -84,5 +84,5 @@ fn packet(i: Interface, body: &[u8])
     let count = i.numbers[ENTRY_COUNT] as u8;
     let key = i.key;
     let entries = i.entries;
-    print_steered(backend::steer(flags, &key, &entries, count, body));
+    print_steered(interface::steer(flags, &key, &entries, count, body));
 }

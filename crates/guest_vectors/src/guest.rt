@@ -12,8 +12,7 @@ use cases::print_cut;
 use cases::print_form;
 use cases::print_number;
 use cases::print_word;
-use guest_messages::NOT_AN_ACK;
-use guest_messages::VALUE_NOT_LISTED;
+use guest_starts::refusal_number;
 use guest_steps::Ask;
 use guest_steps::Guest;
 use guest_steps::GuestAnswer;
@@ -23,12 +22,9 @@ use guest_steps::NUMBERS;
 use guest_steps::OWN_REQ_PROD;
 use guest_steps::OWN_RSP_CONS;
 use guest_steps::PHASE;
-use guest_steps::REQUEST_OUTSTANDING;
-use guest_steps::Refusal;
 use messages::HEADER;
 use page::REQ_PROD;
 use page::RSP_CONS;
-use toeplitz::KEY_LENGTH_WRONG;
 
 // The kinds: a new guest, the four starts, an event, other counts, and octets put into the buffer. Those between are the
 // host's.
@@ -107,20 +103,15 @@ fn call(g: Guest, page: &mut [u8], kind: u8, body: &[u8]) -> Guest
         print_cut();
         return g;
     }
-    let called = call_on(g, &mut page[0..n], kind, &body[2..]);
-    print_called(called, &page[..]);
-    called.guest
+    let left = call_on(g, &mut page[0..n], kind, &body[2..]);
+    print_left(left, &page[..]);
+    left
 }
 
-// What a call answers, and the guest that it leaves.
-struct Called {
-    answer: GuestAnswer,
-    guest: Guest,
-}
-
-fn call_on(g: Guest, page: &mut [u8], kind: u8, given: &[u8]) -> Called
+// Makes the call, and prints what it answers.
+fn call_on(g: Guest, page: &mut [u8], kind: u8, given: &[u8]) -> Guest
     requires { ⌜ Good (stateOf g) ⌝ }
-    ensures { λ r. ⌜ Good (stateOf (r .guest)) ⌝ }
+    ensures { λ r. ⌜ Good (stateOf r) ⌝ }
 {
     if kind == EVENT {
         return event(g, page);
@@ -131,29 +122,26 @@ fn call_on(g: Guest, page: &mut [u8], kind: u8, given: &[u8]) -> Called
     start(g, page, ask_in(kind, given), given, &entries[0..count])
 }
 
-fn event(g: Guest, page: &mut [u8]) -> Called
+fn event(g: Guest, page: &mut [u8]) -> Guest
     requires { ⌜ Good (stateOf g) ⌝ }
-    ensures { λ r. ⌜ Good (stateOf (r .guest)) ⌝ }
+    ensures { λ r. ⌜ Good (stateOf r) ⌝ }
 {
     let mut numbers = g.numbers;
     let request = g.request;
     let mut header = g.header;
     let mut payload = g.payload;
-    let answer = frontend::event(&mut numbers, &request, &mut header, &mut payload, page);
-    Called {
-        answer,
-        guest: Guest {
-            numbers,
-            request,
-            header,
-            payload,
-        },
+    print_answer(frontend::event(&mut numbers, &request, &mut header, &mut payload, page));
+    Guest {
+        numbers,
+        request,
+        header,
+        payload,
     }
 }
 
-fn start(g: Guest, page: &mut [u8], ask: Ask, key: &[u8], entries: &[u64]) -> Called
+fn start(g: Guest, page: &mut [u8], ask: Ask, key: &[u8], entries: &[u64]) -> Guest
     requires { ⌜ Good (stateOf g) ⌝ }
-    ensures { λ r. ⌜ Good (stateOf (r .guest)) ⌝ }
+    ensures { λ r. ⌜ Good (stateOf r) ⌝ }
 {
     let mut numbers = g.numbers;
     let mut request = g.request;
@@ -169,14 +157,12 @@ fn start(g: Guest, page: &mut [u8], ask: Ask, key: &[u8], entries: &[u64]) -> Ca
         key,
         entries,
     );
-    Called {
-        answer,
-        guest: Guest {
-            numbers,
-            request,
-            header,
-            payload,
-        },
+    print_number(b"guest ", answer as u64);
+    Guest {
+        numbers,
+        request,
+        header,
+        payload,
     }
 }
 
@@ -226,11 +212,9 @@ fn mapping_in(given: &[u8]) -> Mapping
     }
 }
 
-// The answer, the guest's phase and own counts, and all octets of the buffer.
-fn print_called(called: Called, page: &[u8]) {
-    let answer = called.answer;
-    let n = called.guest.numbers;
-    print_answer(answer);
+// The rest of the line: the guest's phase and own counts, and all octets of the buffer.
+fn print_left(g: Guest, page: &[u8]) {
+    let n = g.numbers;
     print_form(
         b" phase # req_prod # rsp_cons # page $\n",
         &[n[PHASE], n[OWN_REQ_PROD], n[OWN_RSP_CONS], digest(page)],
@@ -243,19 +227,7 @@ fn print_answer(answer: GuestAnswer) {
         GuestAnswer::RequestOwed => print_word(b"guest 2"),
         GuestAnswer::AckedStatus(status) => print_number(b"guest 1 status ", status as u64),
         GuestAnswer::AckedFlags(flags) => print_number(b"guest 1 status 0 flags ", flags as u64),
-        GuestAnswer::Refused(refusal) => print_number(b"guest ", number_of(refusal) as u64),
-    }
-}
-
-fn number_of(refusal: Refusal) -> u32 {
-    match refusal {
-        Refusal::PageLength => 3,
-        Refusal::RequestCount => 4,
-        Refusal::ResponseCount => 5,
-        Refusal::AckRefused => NOT_AN_ACK,
-        Refusal::Outstanding => REQUEST_OUTSTANDING,
-        Refusal::KeyRefused => KEY_LENGTH_WRONG,
-        Refusal::ValueRefused => VALUE_NOT_LISTED,
+        GuestAnswer::Refused(refusal) => print_number(b"guest ", refusal_number(refusal) as u64),
     }
 }
 

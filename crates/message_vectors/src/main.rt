@@ -124,7 +124,7 @@ fn carry_out(settings: Settings, kind: u32, size: u32, payload: &[u8; MAX_PAYLOA
     let mut key = settings.key;
     let mut entries = settings.entries;
     let mut ack = [0; MAX_ACK];
-    let carried = messages::carry_out(
+    let carried = requests::carry_out(
         queues,
         settings.flags,
         settings.count,
