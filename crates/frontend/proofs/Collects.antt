@@ -1,21 +1,15 @@
 -- What the functions that collect an ack did, as the definitions say it.
 -- Assumes nothing.
-use Rattle.octets.specs.Prelude.{_≡_, refl, ap, List, [], _++_, append-nil, true, false, ℕ, _+_, _≤_, _<_, arith, length, take}
-use Rattle.octets.specs.Prelude.{drop, drop-of-length-le, take-at, drop-at, take-append-add, eq-eqb, ne-eqb, le-leb, lt-leb}
-use borrow.Rule.Slice.PartMut.{putMid}
+use Rattle.octets.specs.Prelude.{_≡_, refl, ap, List, true, false, ℕ, eq-eqb, ne-eqb}
 use Rattle.octets.specs.Outcome.{value, refused}
-use Rattle.messages.specs.Wire.{headerSize, fieldSize, typeIn, sizeIn}
+use Rattle.messages.specs.Wire.{typeIn}
 use Rattle.page.specs.Page.{responsesAt, countedByGuest}
-use Rattle.ring.specs.Reading.{whole, receivedFrom}
-use Rattle.ring.specs.Reading.{Message}
-use Rattle.ring.specs.Reading.{Incoming}
+use Rattle.ring.specs.Reading.{receivedFrom, Incoming}
 use Rattle.guest_messages.specs.Refusals.{notAnAck}
-use Rattle.guest_messages.specs.Reader.{Reading, readAck}
-use Rattle.guest_steps.specs.Guest.{maxAckPayload, idle, failed, incoming, withIncoming, owes}
-use Rattle.guest_steps.specs.Guest.{Good, acked, toldOf}
-use Rattle.guest_steps.specs.Calls.{After, Found, found, refusedWith, wroteOn}
-use Rattle.guest_steps.specs.Calls.{sizeWrong, messageOctets, Seen, part, judged, seen, doneWith, concluded, readOn, eventBy, eventOf, left}
-use Rattle.guest_steps.specs.Guest.{GuestState}
+use Rattle.guest_messages.specs.Reader.{Reading}
+use Rattle.guest_steps.specs.Guest.{idle, failed, incoming, withIncoming, owes, Good, acked, toldOf, GuestState}
+use Rattle.guest_steps.specs.Calls.{After, Found, found, refusedWith, wroteOn, Seen, part, judged, seen, doneWith, concluded, readOn}
+use Rattle.guest_steps.specs.Calls.{eventBy, eventOf, left}
 use Rattle.guest_steps.specs.declared.Refusal.the-variants.{AckRefused}
 use Rattle.guest_steps.specs.declared.GuestAnswer.{GuestAnswer}
 use Rattle.guest_steps.specs.declared.GuestAnswer.the-variants.{Pending, Refused}

@@ -72,8 +72,8 @@ module _ (d : tie.After-write-request) where
       × Good (guestIn (from .args .numbers .now) (d .write-request .last .1 .1 .1 .0) (from .args .header .now) (from .args .payload .now))
   refused-by w e k other r =
       let a = from .args in
-      let both = refuses (message from) (a .request .now) _ (d .write-request .result) (refusalNumber k) other (ap writtenOutcomeOf e ∙ r)
-      (d .write-request .ensures) in
+      let both = refuses (message from) (a .request .now) _ (d .write-request .result) (d .write-request .ensures) (refusalNumber k) other
+      (ap writtenOutcomeOf e ∙ r) in
       concludes from _ (page from) (Refused k)
       (ap (λ (b : List ℕ). left (Refused k) (guestIn (a .numbers .now) b (a .header .now) (a .payload .now)) (page from)) (both .1)
       ∙ starts-refused (message from) (lent from) (page from) room there k (both .0))
@@ -81,7 +81,7 @@ module _ (d : tie.After-write-request) where
   -- or has written it
   wrote-it : (n : ℕ) → d .write-request .result ≡ Length n
       → Wrote (message from) (from .args .request .now) n (d .write-request .last .1 .1 .1 .0)
-  wrote-it n l = wrote (message from) _ _ (d .write-request .result) n l (d .write-request .ensures)
+  wrote-it = wrote (message from) _ _ (d .write-request .result) (d .write-request .ensures)
 
 returns : tie.Need-returns
 returns c =
@@ -127,8 +127,8 @@ returns-5 c =
     let d = c .before .before in
     let s = from d in
     let a = s .args in
-    absurd (has-place (message s) (asks (a .ask) (a .key .now) (a .entries .now)) (a .request .now) _ (s .pre .request .size)
-    (rw (c .enum-told3 .given .1) at (d .write-request .ensures)))
+    absurd (has-place (message s) (a .request .now) _ _ (d .write-request .ensures) (asks (a .ask) (a .key .now) (a .entries .now))
+    (s .pre .request .size) (c .enum-told3 .given .1))
 
 pub start-spec : {M : Type 1} → statement M
 start-spec =
