@@ -1,21 +1,18 @@
 -- How the guest cuts its octets into events makes no difference.
 -- Assumes nothing.
-use Rattle.octets.specs.Prelude.{_≡_, refl, sym, ap, _∙_, List, [], _∷_, _++_, append-assoc, append-nil, true, false, ℕ, _^_, _≤_}
-use Rattle.octets.specs.Prelude.{_<_, arith}
+use Rattle.octets.specs.Prelude.{_≡_, refl, sym, ap, _∙_, List, [], _∷_, _++_, append-assoc, append-nil, true, false, ℕ, _^_, _≤_, _<_}
+use Rattle.octets.specs.Prelude.{arith}
 use Rattle.messages.specs.Settings.{maxQueues, settingsAtSetup}
-use Rattle.page.specs.Refusals.{pageWrong, requestsWrong, responsesWrong}
 use Rattle.page.specs.Page.{requestsAt, responsesAt, less, octetsIn}
 use Rattle.ring.specs.Reading.{whole}
 use Rattle.ring.specs.Streams.{beginsWhole, presentPart}
 use Rattle.page.proofs.Places.{octets-none}
 use Rattle.ring.proofs.Holdings.{holding-none, holding-whole}
-use Rattle.interface.specs.States.{Good, interfaceAtSetup}
-use Rattle.interface.specs.Events.{After, waiting, unread, refusedWith, answeredWith}
-use Rattle.interface.specs.Events.{owes, responded, readIn, carriedOver, eventOf}
-use Rattle.backend.specs.Streams.{messagesWithin, restWithin, messagesIn, restOf, settingsAfter, acksTo, owedOctets}
-use Rattle.backend.specs.Streams.{readBy, writtenBy, stateAfter, octetsRead, octetsWritten, Served}
+use Rattle.interface.specs.States.{Good, interfaceAtSetup, HostState}
+use Rattle.interface.specs.Events.{After, waiting, unread, refusedWith, answeredWith, owes, responded, readIn, carriedOver, eventOf}
+use Rattle.backend.specs.Streams.{messagesWithin, restWithin, messagesIn, restOf, settingsAfter, acksTo, owedOctets, readBy}
+use Rattle.backend.specs.Streams.{writtenBy, stateAfter, octetsRead, octetsWritten, Served}
 use Rattle.backend.specs.Rules.{Accepted, room, afterReading}
-use Rattle.interface.specs.States.{HostState}
 use Rattle.backend.proofs.Branches.{event-cases}
 use Rattle.backend.proofs.Goodness.{good-interface, good-event, good-carried}
 use Rattle.backend.proofs.Falls.{stream-parts, messages-whole, rest-part, falls-so, empty-part}
@@ -127,18 +124,9 @@ module _ (q : ℕ) (s : HostState) (page read written : List ℕ) (good : Good s
         let next = stands-responded q (carriedOver after) stream written one-more [] page (room s page) carried keeps (ok .size) in
         stands-served q _ stream _ one-more [] next (empty-part [] (omega arith))
 
--- each event serves the octets that it reads, and writes acks in order
-pub served-event : (q : ℕ) (s : HostState) (page read written : List ℕ) → Good s → Served q s read written
-    → Served q (eventOf s page .state) (read ++ readBy s page) (written ++ writtenBy s page)
-served-event q s page read written good served =
-    let refused = serves-refused q s page read written good served in
-    event-cases s page (Serves q s page read written good served)
-    (λ e. refused pageWrong)
-    (λ e r. refused requestsWrong)
-    (λ e r a. refused responsesWrong)
-    (λ ok owing. serves-owing q s page read written good served ok)
-    (λ ok idle part. serves-part q s page read written good served ok part)
-    (λ ok idle all. serves-whole q s page read written good served ok idle all)
+  -- each event serves the octets that it reads, and writes acks in order
+  pub served-event : Served q (eventOf s page .state) (read ++ readBy s page) (written ++ writtenBy s page)
+  served-event = event-cases s page Serves (λ k x. serves-refused k) (λ ok owing. serves-owing ok) (λ ok idle. serves-part ok) serves-whole
 
 -- and so do events one after the other
 served-events : (pages : List (List ℕ)) (q : ℕ) (s : HostState) (read written : List ℕ) → Good s → Served q s read written

@@ -1,8 +1,8 @@
 -- The messages into which a stream falls.
 -- Assumes nothing.
-use Rattle.octets.specs.Prelude.{_≡_, refl, sym, ap, ap₂, _∙_, List, [], _∷_, _++_, append-assoc, append-nil, Bool, true, false}
-use Rattle.octets.specs.Prelude.{ℕ, zero, suc, _+_, _≤_, arith, length, length-append, length-drop, take-append-drop}
-use Rattle.octets.specs.Prelude.{length-take-le, take-all, drop-at, le-leb, lt-leb, leb-true}
+use Rattle.octets.specs.Prelude.{_≡_, refl, sym, ap, ap₂, _∙_, List, [], _∷_, _++_, append-assoc, append-nil, Bool, true, false, ℕ, zero}
+use Rattle.octets.specs.Prelude.{suc, _+_, _≤_, arith, length, length-append, length-drop, take-append-drop, length-take-le, take-all}
+use Rattle.octets.specs.Prelude.{drop-at, le-leb, lt-leb, leb-true}
 use Rattle.messages.specs.Wire.{headerSize, sizeIn}
 use Rattle.messages.specs.Requests.{ackIn, carriedMessage}
 use Rattle.messages.specs.Settings.{Settings}

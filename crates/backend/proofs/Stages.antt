@@ -1,29 +1,24 @@
 -- The stages of an event: octets read, the message carried out, its ack written. Each keeps to the stream.
 -- Assumes nothing.
-use Rattle.octets.specs.Prelude.{_≡_, refl, sym, ap, ap₂, _∙_, List, [], _∷_, _++_, append-assoc, append-nil, Bool, true, false}
-use Rattle.octets.specs.Prelude.{ℕ, _+_, _-_, _≤_, arith, length, take, drop, length-take, length-drop, take-append-drop}
-use Rattle.octets.specs.Prelude.{drop-of-length-le, length-take-le, take-all, take-append-le, drop-append-le, drop-drop}
-use Rattle.octets.specs.Prelude.{getD-take, leb, leb-true, leb-false, ltb-false}
+use Rattle.octets.specs.Prelude.{_≡_, refl, sym, ap, ap₂, _∙_, List, [], _∷_, _++_, append-assoc, append-nil, Bool, true, false, ℕ, _+_}
+use Rattle.octets.specs.Prelude.{_-_, _≤_, arith, length, take, drop, length-take, length-drop, take-append-drop, drop-of-length-le}
+use Rattle.octets.specs.Prelude.{length-take-le, take-all, take-append-le, drop-append-le, drop-drop, getD-take, leb, leb-true, leb-false}
+use Rattle.octets.specs.Prelude.{ltb-false}
 use Rattle.octets.proofs.Numbers.{number-same}
 use Rattle.messages.specs.Wire.{headerSize, maxPayload, typeIn, sizeIn, payloadIn}
-use Rattle.messages.specs.Settings.{settingsAtSetup}
-use Rattle.messages.specs.Requests.{maxAck, ackIn, carriedOut, carriedMessage}
-use Rattle.messages.specs.Settings.{Settings}
-use Rattle.messages.specs.Requests.{Carried}
+use Rattle.messages.specs.Settings.{settingsAtSetup, Settings}
+use Rattle.messages.specs.Requests.{maxAck, ackIn, carriedOut, carriedMessage, Carried}
 use Rattle.messages.proofs.Theorems.{header-bounds-payload, header-alone}
 use Rattle.page.specs.Page.{pageSize, areaSize, requestsAt, responsesAt, less, advanced, octetsIn, put}
-use Rattle.ring.specs.Writing.{owed, fitting, sentOctets, GoodOutgoing}
-use Rattle.ring.specs.Reading.{messageLength}
+use Rattle.ring.specs.Writing.{owed, fitting, sentOctets, GoodOutgoing, Outgoing}
+use Rattle.ring.specs.Reading.{messageLength, Message}
 use Rattle.ring.specs.Streams.{beginsWhole, presentPart, Holding}
-use Rattle.ring.specs.Reading.{Message}
-use Rattle.ring.specs.Writing.{Outgoing}
 use Rattle.page.proofs.Untouched.{counted-octets, put-stands}
 use Rattle.ring.proofs.Sides.{less-advanced}
 use Rattle.ring.proofs.Holdings.{size-take, part-whole, part-all, holding-none, holding-header}
-use Rattle.interface.specs.States.{Good}
+use Rattle.interface.specs.States.{Good, HostState}
 use Rattle.interface.specs.Events.{After, owes, responded, readIn, carriedIn, carriedOver}
 use Rattle.backend.specs.Streams.{joined, Messages, settingsAfter, acksTo, owedOctets}
-use Rattle.interface.specs.States.{HostState}
 use Rattle.backend.proofs.Arrivals.{readTo, read-held, read-octets}
 use Rattle.backend.proofs.Falls.{first-long, joined-snoc, messages-snoc, settings-snoc, acks-snoc}
 

@@ -5,8 +5,8 @@ use Rattle.page.specs.Refusals.{pageWrong, requestsWrong, responsesWrong}
 use Rattle.page.specs.Page.{pageSize, areaSize, counted}
 use Rattle.ring.specs.Reading.{whole}
 use Rattle.interface.specs.States.{HostState, Good}
-use Rattle.interface.specs.Events.{After, unread, unreadAcks, refusedWith, owes}
-use Rattle.interface.specs.Events.{responded, readIn, carriedOver, afterRead, proceeded, eventOf, left}
+use Rattle.interface.specs.Events.{After, unread, unreadAcks, refusedWith, owes, responded, readIn, carriedOver, afterRead, proceeded}
+use Rattle.interface.specs.Events.{eventOf, left}
 use Rattle.interface.specs.declared.EventAnswer.{EventAnswer}
 use Rattle.interface.specs.declared.EventAnswer.the-variants.{Waiting}
 use Rattle.backend.proofs.Goodness.{good-event}
