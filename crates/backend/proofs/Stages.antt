@@ -1,7 +1,7 @@
 -- The stages of an event: octets read, the message carried out, its ack written. Each keeps to the stream.
 -- Assumes nothing.
-use Rattle.octets.specs.Prelude.{_≡_, refl, sym, ap, ap₂, _∙_, List, [], _∷_, _++_, append-assoc, append-nil, Bool, true, false, ℕ, _+_}
-use Rattle.octets.specs.Prelude.{_-_, _≤_, arith, length, take, drop, length-take, length-drop, take-append-drop, drop-of-length-le}
+use Rattle.octets.specs.Prelude.{_≡_, refl, sym, ap, ap₂, _∙_, List, [], _∷_, _++_, append-assoc, append-nil, Bool, false≢true, true, false}
+use Rattle.octets.specs.Prelude.{ℕ, _+_, _-_, _≤_, arith, length, take, drop, length-take, length-drop, take-append-drop, drop-of-length-le}
 use Rattle.octets.specs.Prelude.{length-take-le, take-all, take-append-le, drop-append-le, drop-drop, getD-take, leb, leb-true, leb-false}
 use Rattle.octets.specs.Prelude.{ltb-false}
 use Rattle.octets.proofs.Numbers.{number-same}
@@ -9,13 +9,14 @@ use Rattle.messages.specs.Wire.{headerSize, maxPayload, typeIn, sizeIn, payload
 use Rattle.messages.specs.Settings.{settingsAtSetup, Settings}
 use Rattle.messages.specs.Requests.{maxAck, ackIn, carriedOut, carriedMessage, Carried}
 use Rattle.messages.proofs.Theorems.{header-bounds-payload, header-alone}
-use Rattle.page.specs.Page.{pageSize, areaSize, requestsAt, responsesAt, less, advanced, octetsIn, put}
+use Rattle.page.specs.Page.{pageSize, areaSize, requestsAt, responsesAt, less, octetsIn, put}
 use Rattle.ring.specs.Writing.{owed, fitting, sentOctets, GoodOutgoing, Outgoing}
 use Rattle.ring.specs.Reading.{messageLength, Message}
 use Rattle.ring.specs.Streams.{beginsWhole, presentPart, Holding}
-use Rattle.page.proofs.Untouched.{counted-octets, put-stands}
-use Rattle.ring.proofs.Sides.{less-advanced}
-use Rattle.ring.proofs.Holdings.{size-take, part-whole, part-all, holding-none, holding-header}
+use Rattle.page.proofs.Untouched.{counted-octets}
+use Rattle.octets.proofs.Truth.{by-test}
+use Rattle.ring.proofs.Sides.{sent-stands}
+use Rattle.ring.proofs.Holdings.{size-take, holding-none, holding-header}
 use Rattle.interface.specs.States.{Good, HostState}
 use Rattle.interface.specs.Events.{After, owes, responded, readIn, carriedIn, carriedOver}
 use Rattle.backend.specs.Streams.{joined, Messages, settingsAfter, acksTo, owedOctets}
@@ -37,13 +38,10 @@ pub record Stands (q : ℕ) (s : HostState) (read written : List ℕ) (ms : List
 
 -- a present message that is whole is a message
 pub present-long : (xs : List ℕ) → beginsWhole (presentPart xs) ≡ true → length (presentPart xs) ≡ messageLength (presentPart xs)
-present-long xs w = by (beginsWhole xs) refl
-  where
-    by : (b : Bool) → beginsWhole xs ≡ b → length (presentPart xs) ≡ messageLength (presentPart xs)
-    by true e = rw (part-whole xs e) (first-long xs e)
-    by false e =
-        let all = leb-true (messageLength xs) (length xs) (ap beginsWhole (sym (part-all xs e)) ∙ w) in
-        absurd (omega (arith, leb-false (messageLength xs) (length xs) e))
+unfolding presentPart
+present-long xs =
+    by-test (λ (l : List ℕ). beginsWhole l ≡ true → length l ≡ messageLength l) (beginsWhole xs) _ _ (λ e _. first-long xs e)
+    (λ e w. absurd (false≢true (sym e ∙ w)))
 
 -- the message held is carried out as the octets read are
 module _ (st : Settings) (m : Message) (xs : List ℕ) (held : Holding m xs) (long : length xs ≡ messageLength xs) where
@@ -66,14 +64,11 @@ module _ (st : Settings) (m : Message) (xs : List ℕ) (held : Holding m xs) (lo
 
   pub carried-held : carriedOut st (typeIn (m .header)) (sizeIn (m .header)) (m .payload) ≡ carriedMessage st xs []
   carried-held =
-      ap₂ (λ (t n : ℕ). carriedOut st t n (m .payload)) type-held size-held
-      ∙ by (leb (sizeIn xs) maxPayload) refl
-      ∙ ap (carriedOut st (typeIn xs) (sizeIn xs)) (sym (append-nil (payloadIn xs)))
-    where
-      by : (b : Bool) → leb (sizeIn xs) maxPayload ≡ b
-          → carriedOut st (typeIn xs) (sizeIn xs) (m .payload) ≡ carriedOut st (typeIn xs) (sizeIn xs) (payloadIn xs)
-      by true e = header-bounds-payload st (typeIn xs) (sizeIn xs) (m .payload) (payloadIn xs) (payload-held (leb-true _ _ e))
-      by false e = header-alone st (typeIn xs) (sizeIn xs) (m .payload) (payloadIn xs) (leb-false _ _ e)
+      let carried = carriedOut st (typeIn xs) (sizeIn xs) in
+      rw (type-held, size-held, append-nil)
+      (by-test (λ (_ : Bool). carried (m .payload) ≡ carried (payloadIn xs)) (leb (sizeIn xs) maxPayload) true false
+      (λ e. header-bounds-payload st (typeIn xs) (sizeIn xs) (m .payload) (payloadIn xs) (payload-held (leb-true _ _ e)))
+      (λ e. header-alone st (typeIn xs) (sizeIn xs) (m .payload) (payloadIn xs) (leb-false _ _ e)))
 
 -- octets of an ack sent, and those that are still owed, are those that were
 sent-rest : (o : Outgoing) (n : ℕ) → GoodOutgoing maxAck o → n ≤ owed o
@@ -95,15 +90,8 @@ written-sent : (s : HostState) (page : List ℕ) (room : ℕ) → GoodOutgoing m
 unfolding responded
 written-sent s page room good size =
     let o = s .outgoing in
-    let p = o .prod in
-    let n = fitting o room in
-    let xs = sentOctets o n in
-    let into = put responsesAt page p xs in
-    let left : length (drop (o .written) (o .octets)) ≡ length (o .octets) - o .written = length-drop (o .written) (o .octets) in
-    let long : length xs ≡ n = length-take-le n (drop (o .written) (o .octets)) (omega arith) in
-    counted-octets responsesAt into (s .incoming .cons) (advanced p n) (less (advanced p n) p) p (omega arith)
-    ∙ ap (octetsIn responsesAt into p) (less-advanced p n (good .count) (omega arith) ∙ sym long)
-    ∙ put-stands responsesAt xs page p (omega arith) (omega arith)
+    counted-octets responsesAt (put responsesAt page (o .prod) (sentOctets o (fitting o room))) _ _ _ (o .prod) (omega arith)
+    ∙ sent-stands o room maxAck (o .prod) good (omega arith) refl responsesAt page (omega arith) (omega arith)
 
 module _ (q : ℕ) (s : HostState) (read written : List ℕ) (ms : List (List ℕ)) (present : List ℕ) where
   -- octets of the present message read

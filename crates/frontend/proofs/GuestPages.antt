@@ -142,7 +142,7 @@ wrote-next g page n good size small =
     record {
       octets =
           guest-counted-octets requestsAt (put requestsAt page (o .prod) (sentOctets o (fitting o n))) _ _ _ (o .prod) (omega arith)
-          ∙ sent-stands o n maxRequest (o .prod) (good .request) (omega arith) refl requestsAt page small (omega arith)
+          ∙ sent-stands o n maxRequest (o .prod) (good .request) (omega arith) refl requestsAt page (omega arith) (omega arith)
           ∙ ap (sentOctets o) (sym moves);
     }
 

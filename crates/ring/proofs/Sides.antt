@@ -82,7 +82,7 @@ module _ (o : Outgoing) (room most c : ℕ) (good : GoodOutgoing most o) (small 
       put-other area (sentOctets o (fitting o room)) page (o .prod) i
       (λ j l e. free j (omega (arith, sent-moves, sent-length)) (e ∙ ap (λ (p : ℕ). area + (p + j) % areaSize) same))
 
-  pub sent-stands : (area : ℕ) (page : List ℕ) → room ≤ areaSize → area + areaSize ≤ length page
+  pub sent-stands : (area : ℕ) (page : List ℕ) → fitting o room ≤ areaSize → area + areaSize ≤ length page
       → octetsIn area (put area page (o .prod) (sentOctets o (fitting o room))) (o .prod) (less (sent o (fitting o room) .prod) c)
       ≡ sentOctets o (fitting o room)
   sent-stands area page few long =
