@@ -20,28 +20,11 @@ use Rattle.backend.proofs.Arrivals.{readTo}
 use Rattle.backend.proofs.Stages.{writtenTo, Stands, present-long, stands-read, stands-carried, stands-responded}
 
 -- to have served a stream is to stand where it falls apart, whichever way that is found
-stands-served : (q : ℕ) (s : HostState) (read written : List ℕ) (ms : List (List ℕ)) (present : List ℕ)
+stands-served : {q : ℕ} {s : HostState} {read written : List ℕ} {ms : List (List ℕ)} {present : List ℕ}
     → Stands q s read written ms present → beginsWhole present ≡ false → Served q s read written
-stands-served q s read written ms present stands part =
-    let falls = falls-so ms present (stands .messages) part in
-    let all : messagesIn read ≡ ms = ap messagesIn (stands .splits) ∙ falls .0 in
-    let rest : restOf read ≡ present = ap restOf (stands .splits) ∙ falls .1 in
-    record {
-      settings = stands .settings ∙ ap (settingsAfter (settingsAtSetup q)) (sym all);
-      acks = stands .acks ∙ ap (acksTo (settingsAtSetup q)) (sym all);
-      present = rw rest (stands .held);
-    }
-
-served-stands : (q : ℕ) (s : HostState) (read written : List ℕ) → Served q s read written
-    → Stands q s read written (messagesIn read) (restOf read)
-served-stands q s read written served =
-    record {
-      splits = sym (stream-parts read);
-      messages = messages-whole read;
-      held = served .present;
-      settings = served .settings;
-      acks = served .acks;
-    }
+stands-served {ms = ms} {present = present} stands part =
+    let falls = rw (← stands .splits) at (falls-so ms present (stands .messages) part) in
+    record { settings = rw (falls .0) (stands .settings); acks = rw (falls .0) (stands .acks); present = rw (falls .1) (stands .held) }
 
 -- a new interface has served the empty stream
 pub served-none : (q : ℕ) → Served q (interfaceAtSetup q) [] []
@@ -67,7 +50,14 @@ module _ (q : ℕ) (s : HostState) (page read written : List ℕ) (good : Good s
   rest = restOf read
 
   stands : Stands q s read written ms rest
-  stands = served-stands q s read written served
+  stands =
+      record {
+        splits = sym (stream-parts read);
+        messages = messages-whole read;
+        held = served .present;
+        settings = served .settings;
+        acks = served .acks;
+      }
 
   -- where a count stays, nothing is read or written
   none-read : octetsIn requestsAt page (s .incoming .cons) (less (s .incoming .cons) (s .incoming .cons)) ≡ []
@@ -85,8 +75,8 @@ module _ (q : ℕ) (s : HostState) (page read written : List ℕ) (good : Good s
   serves-owing : Accepted s page → Serves (responded s page (room s page))
   unfolding responded
   serves-owing ok =
-      let next = stands-responded q s read written ms rest page (room s page) stands (good .outgoing) (ok .size) in
-      rw (none-read, append-nil read) (stands-served q _ read _ ms rest next (rest-part read))
+      let next = stands-responded stands page (room s page) (good .outgoing) (ok .size) in
+      rw (none-read, append-nil read) (stands-served next (rest-part read))
 
   -- octets read
   module _ (ok : Accepted s page) where
@@ -101,7 +91,7 @@ module _ (q : ℕ) (s : HostState) (page read written : List ℕ) (good : Good s
     behind = rest ++ octetsIn requestsAt page (s .incoming .cons) (unread s page)
 
     stands-after : Stands q after stream written ms (presentPart behind)
-    stands-after = stands-read q s read written ms rest page (unread s page) good stands (rest-part read) (ok .requests)
+    stands-after = stands-read stands page (unread s page) good (rest-part read) (ok .requests)
 
     whole-after : beginsWhole (presentPart behind) ≡ whole (after .incoming .message)
     whole-after = sym (holding-whole (after .incoming .message) (presentPart behind) (stands-after .held))
@@ -111,18 +101,15 @@ module _ (q : ℕ) (s : HostState) (page read written : List ℕ) (good : Good s
     unfolding readIn
     serves-part waits =
         rw (none-written (answeredWith waiting after page .page), append-nil written)
-        (stands-served q after stream written ms (presentPart behind) stands-after (whole-after ∙ waits))
+        (stands-served stands-after (whole-after ∙ waits))
 
     -- whole: carried out, and ack octets written
     serves-whole : owes s ≡ false → whole (after .incoming .message) ≡ true → Serves (responded (carriedOver after) page (room s page))
     unfolding readIn carriedOver responded
     serves-whole idle all =
-        let one-more = ms ++ (presentPart behind ∷ []) in
-        let long = present-long behind (whole-after ∙ all) in
-        let carried = stands-carried q after stream written ms (presentPart behind) stands-after long idle in
+        let carried = stands-carried stands-after (present-long behind (whole-after ∙ all)) idle in
         let keeps = good-carried s page (unread s page) good .outgoing in
-        let next = stands-responded q (carriedOver after) stream written one-more [] page (room s page) carried keeps (ok .size) in
-        stands-served q _ stream _ one-more [] next (empty-part [] (omega arith))
+        stands-served (stands-responded carried page (room s page) keeps (ok .size)) (empty-part [] (omega arith))
 
   -- each event serves the octets that it reads, and writes acks in order
   pub served-event : Served q (eventOf s page .state) (read ++ readBy s page) (written ++ writtenBy s page)

@@ -7,7 +7,7 @@ use Rattle.octets.specs.Prelude.{ltb-false}
 use Rattle.octets.proofs.Numbers.{number-same}
 use Rattle.messages.specs.Wire.{headerSize, maxPayload, typeIn, sizeIn, payloadIn}
 use Rattle.messages.specs.Settings.{settingsAtSetup, Settings}
-use Rattle.messages.specs.Requests.{maxAck, ackIn, carriedOut, carriedMessage, Carried}
+use Rattle.messages.specs.Requests.{maxAck, carriedOut, carriedMessage}
 use Rattle.messages.proofs.Theorems.{header-bounds-payload, header-alone}
 use Rattle.page.specs.Page.{pageSize, areaSize, requestsAt, responsesAt, less, octetsIn, put}
 use Rattle.ring.specs.Writing.{owed, fitting, sentOctets, GoodOutgoing, Outgoing}
@@ -93,19 +93,16 @@ written-sent s page room good size =
     counted-octets responsesAt (put responsesAt page (o .prod) (sentOctets o (fitting o room))) _ _ _ (o .prod) (omega arith)
     ∙ sent-stands o room maxAck (o .prod) good (omega arith) refl responsesAt page (omega arith) (omega arith)
 
-module _ (q : ℕ) (s : HostState) (read written : List ℕ) (ms : List (List ℕ)) (present : List ℕ) where
+module _ {q : ℕ} {s : HostState} {read written : List ℕ} {ms : List (List ℕ)} {present : List ℕ}
+    (stands : Stands q s read written ms present) where
   -- octets of the present message read
-  pub stands-read : (page : List ℕ) (n : ℕ) → Good s → Stands q s read written ms present → beginsWhole present ≡ false → n ≤ areaSize
+  pub stands-read : (page : List ℕ) (n : ℕ) → Good s → beginsWhole present ≡ false → n ≤ areaSize
       → Stands q (readIn s page n) (read ++ readTo s page (readIn s page n)) written ms
       (presentPart (present ++ octetsIn requestsAt page (s .incoming .cons) n))
   unfolding readIn
-  stands-read page n good stands part most =
-      let octets = readTo s page (readIn s page n) in
+  stands-read page n good part most =
       record {
-        splits =
-            ap (λ (l : List ℕ). l ++ octets) (stands .splits)
-            ∙ append-assoc (joined ms) present octets
-            ∙ ap (λ (l : List ℕ). joined ms ++ l) (read-octets s page n present good (stands .held) part most);
+        splits = rw (stands .splits, append-assoc, read-octets s page n present good (stands .held) part most) refl;
         messages = stands .messages;
         held = read-held s page n present good (stands .held) part most;
         settings = stands .settings;
@@ -113,16 +110,14 @@ module _ (q : ℕ) (s : HostState) (read written : List ℕ) (ms : List (List �
       }
 
   -- the present message carried out
-  pub stands-carried : Stands q s read written ms present → length present ≡ messageLength present → owes s ≡ false
+  pub stands-carried : length present ≡ messageLength present → owes s ≡ false
       → Stands q (carriedOver s) read written (ms ++ (present ∷ [])) []
   unfolding carriedOver
-  stands-carried stands long idle =
-      let m = s .incoming .message in
+  stands-carried long idle =
       let o = s .outgoing in
       let new = settingsAtSetup q in
-      let st = settingsAfter new ms in
-      let carried : carriedIn s ≡ carriedMessage st present [] =
-      carried-held (s .settings) m present (stands .held) long ∙ ap (λ (t : Settings). carriedMessage t present []) (stands .settings) in
+      let carried : carriedIn s ≡ carriedMessage (settingsAfter new ms) present [] =
+      carried-held (s .settings) (s .incoming .message) present (stands .held) long ∙ rw (stands .settings) refl in
       let over : o .length ≤ o .written = ltb-false _ _ idle in
       let none : owedOctets s ≡ [] =
       drop-of-length-le (take (o .length) (o .octets)) {i = o .written} (omega (arith, length-take (o .length) (o .octets))) in
@@ -130,30 +125,20 @@ module _ (q : ℕ) (s : HostState) (read written : List ℕ) (ms : List (List �
         splits = stands .splits ∙ sym (append-nil (joined (ms ++ (present ∷ []))) ∙ joined-snoc ms present);
         messages = messages-snoc ms present (stands .messages) long;
         held = holding-none _ (stands .held .header-size) (stands .held .payload-size) refl;
-        settings = ap (λ (c : Carried). c .settings) carried ∙ sym (settings-snoc new ms present);
-        acks =
-            ap (λ (l : List ℕ). written ++ l) (ap ackIn carried)
-            ∙ ap (λ (l : List ℕ). l ++ ackIn (carriedMessage st present []))
-            (sym (append-nil written) ∙ ap (λ (l : List ℕ). written ++ l) (sym none) ∙ stands .acks)
-            ∙ sym (acks-snoc new ms present);
+        settings = cc (carried, settings-snoc new ms present);
+        acks = cc (carried, none, append-nil written, stands .acks, acks-snoc new ms present);
       }
 
   -- octets of the ack written
-  pub stands-responded : (page : List ℕ) (room : ℕ) → Stands q s read written ms present → GoodOutgoing maxAck (s .outgoing) → length page ≡ pageSize
+  pub stands-responded : (page : List ℕ) (room : ℕ) → GoodOutgoing maxAck (s .outgoing) → length page ≡ pageSize
       → Stands q (responded s page room .state) read (written ++ writtenTo s (responded s page room)) ms present
   unfolding responded
-  stands-responded page room stands good size =
+  stands-responded page room good size =
       let o = s .outgoing in
-      let n = fitting o room in
-      let rest = drop (o .written + n) (take (o .length) (o .octets)) in
       record {
         splits = stands .splits;
         messages = stands .messages;
         held = stands .held;
         settings = stands .settings;
-        acks =
-            ap (λ (l : List ℕ). written ++ l ++ rest) (written-sent s page room good size)
-            ∙ append-assoc written (sentOctets o n) rest
-            ∙ ap (λ (l : List ℕ). written ++ l) (sent-rest o n good (omega arith))
-            ∙ stands .acks;
+        acks = rw (written-sent s page room good size, append-assoc, sent-rest o (fitting o room) good (omega arith)) (stands .acks);
       }
