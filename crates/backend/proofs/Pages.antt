@@ -3,17 +3,16 @@
 use Rattle.octets.specs.Prelude.{_≡_, refl, _∙_, List, inl, inr, ℕ, _+_, _%_, _≤_, _<_, arith, length, getD, eqb, leb}
 use Rattle.octets.proofs.Truth.{same-test}
 use Rattle.messages.specs.Requests.{maxAck}
-use Rattle.page.specs.Refusals.{pageWrong, requestsWrong, responsesWrong}
 use Rattle.page.specs.Page.{pageSize, areaSize, reqConsAt, reqProdAt, rspConsAt, rspProdAt, requestsAt, responsesAt, countIn, less, counted}
-use Rattle.page.specs.Page.{octetsIn, put}
+use Rattle.page.specs.Page.{put}
 use Rattle.ring.specs.Reading.{whole, receivedFrom}
 use Rattle.ring.specs.Writing.{fitting, sentOctets, sent}
 use Rattle.ring.proofs.Sides.{sent-moves, sent-elsewhere}
 use Rattle.page.proofs.Places.{octets-length, put-length}
 use Rattle.page.proofs.Untouched.{counted-between, counted-behind, counted-length, counted-cons, counted-prod, counted-others, octets-agree}
 use Rattle.interface.specs.States.{HostState, Good}
-use Rattle.interface.specs.Events.{After, unread, unreadAcks, refusedWith, answeredWith, withOutgoing, owes, responded, readIn, carriedOver}
-use Rattle.interface.specs.Events.{afterRead, proceeded, eventOf}
+use Rattle.interface.specs.Events.{After, unread, unreadAcks, answeredWith, withOutgoing, owes, responded, readIn, carriedOver, afterRead}
+use Rattle.interface.specs.Events.{proceeded, eventOf}
 use Rattle.backend.specs.Streams.{writtenBy}
 use Rattle.backend.specs.Rules.{Accepted, room, afterReading, NoOwnCount, AckPlace, Alike}
 use Rattle.backend.proofs.Branches.{event-cases}
@@ -113,42 +112,20 @@ writes-into-room s page good ok =
 
 -- ---- what is not read
 
--- pages that agree in what an event looks at
-module _ (s : HostState) (p q : List ℕ) (octets : (n c : ℕ) → octetsIn requestsAt p c n ≡ octetsIn requestsAt q c n) where
-  read-alike : (n : ℕ) → readIn s p n ≡ readIn s q n
-  unfolding readIn receivedFrom
-  read-alike n = rw (octets n (s .incoming .cons)) refl
-
-  responded-alike : (t : HostState) (n : ℕ) → Alike (responded t p n) (responded t q n)
-  unfolding responded
-  responded-alike t n = record { answer = refl; state = refl }
-
-  after-alike : (t : HostState) (n : ℕ) → Alike (afterRead t p n) (afterRead t q n)
-  unfolding afterRead
-  after-alike t n =
-      same-test Alike (whole (t .incoming .message)) _ _ _ _ (responded-alike (carriedOver t) n) (record { answer = refl; state = refl })
-
-  proceeded-alike : (n k : ℕ) → Alike (proceeded s p n k) (proceeded s q n k)
-  unfolding proceeded
-  proceeded-alike n k = same-test Alike (owes s) _ _ _ _ (responded-alike s k) (rw (read-alike n) (after-alike (readIn s q n) k))
-
-  event-alike : length p ≡ length q → countIn p reqProdAt ≡ countIn q reqProdAt → countIn p rspConsAt ≡ countIn q rspConsAt
-      → Alike (eventOf s p) (eventOf s q)
-  unfolding eventOf
-  event-alike size prod cons =
-      let same : (k : ℕ) → Alike (refusedWith k s p) (refusedWith k s q) = λ k. record { answer = refl; state = refl } in
-      rw (size, prod, cons)
-      (same-test Alike (eqb (length q) pageSize) _ _ _ _
-      (same-test Alike (leb (unread s q) areaSize) _ _ _ _
-      (same-test Alike (leb (unreadAcks s q) areaSize) _ _ _ _ (proceeded-alike (unread s q) (room s q)) (same responsesWrong))
-      (same requestsWrong))
-      (same pageWrong))
-
 -- of a page only its length, req_prod, rsp_cons and the request area are read
 pub only-these-read : (s : HostState) (p q : List ℕ) → length p ≡ length q → countIn p reqProdAt ≡ countIn q reqProdAt
     → countIn p rspConsAt ≡ countIn q rspConsAt → ((o : ℕ) → o < areaSize → getD p (requestsAt + o) 0 ≡ getD q (requestsAt + o) 0)
     → Alike (eventOf s p) (eventOf s q)
-only-these-read s p q size prod cons area = event-alike s p q (octets-agree requestsAt p q area) size prod cons
+unfolding eventOf proceeded afterRead responded readIn receivedFrom
+only-these-read s p q size prod cons area =
+    rw (size, prod, cons, octets-agree requestsAt p q area (unread s q) (s .incoming .cons))
+    (same-test Alike (eqb (length q) pageSize) _ _ _ _
+    (same-test Alike (leb (unread s q) areaSize) _ _ _ _
+    (same-test Alike (leb (unreadAcks s q) areaSize) _ _ _ _
+    (same-test Alike (owes s) _ _ _ _ (record { answer = refl; state = refl })
+    (same-test Alike (whole (afterReading s q .incoming .message)) _ _ _ _ (record { answer = refl; state = refl })
+    (record { answer = refl; state = refl })))
+    (record { answer = refl; state = refl })) (record { answer = refl; state = refl })) (record { answer = refl; state = refl }))
 
 -- what the page says of req_cons and rsp_prod makes no difference to answer or state
 pub own-counts-not-read : (s : HostState) (page : List ℕ) (c p : ℕ) → Alike (eventOf s (counted page c p)) (eventOf s page)

@@ -1,7 +1,7 @@
 -- Setup gives a good guest, and so does every call on a good one.
 -- Assumes nothing.
-use Rattle.octets.specs.Prelude.{_≡_, refl, ap, _∙_, List, _++_, false, ℕ, _^_, _≤_, _<_, arith, length, drop, length-append, length-drop}
-use Rattle.octets.specs.Prelude.{eqb, leb, eqb-true, ltb-false}
+use Rattle.octets.specs.Prelude.{_≡_, refl, sym, ap, subst, _∙_, List, _++_, false, ℕ, _^_, _≤_, _<_, arith, length, drop, length-append}
+use Rattle.octets.specs.Prelude.{length-drop, eqb, leb, eqb-true, ltb-false}
 use Rattle.octets.specs.Numbers.{octetsOf}
 use Rattle.octets.specs.Outcome.{Outcome, value, refused}
 use Rattle.octets.proofs.Outcomes.{value-same, value-not-refused, test-value, test-refused}
@@ -150,10 +150,6 @@ good-event g page good =
     event-ways g page (λ (a : After). Good (a .state)) (λ k s. good) (λ ok f. good) (λ ok i. good)
     (λ ok w b o. good-wrote g page (room g page) good) (λ ok w b o. good-read g page good b o)
 
--- what a start in place leaves is what the definition says, and good
-pub starts-good : (o : Outcome (List ℕ)) (g t : GuestState) (page octets : List ℕ) (r : GuestAnswer)
-    → Fits o → Good g → left r t octets ≡ startOf o g page
-    → (left r t octets ≡ startOf o g page) × Good t
-starts-good o g t page octets r short good e =
-    let same : t ≡ startOf o g page .state = ap (λ (a : After). a .state) e in
-    (e, rw same (good-started o g page short good))
+-- what a call in place leaves is good where what the definition leaves is
+pub left-good : (r : GuestAnswer) (t : GuestState) (octets : List ℕ) (a : After) → left r t octets ≡ a → Good (a .state) → Good t
+left-good r t octets a e = subst Good (sym (ap (λ (x : After). x .state) e))

@@ -122,14 +122,14 @@ module _ (g : GuestState) (page : List ℕ) where
 
   -- ---- an event
 
-  event-tells : RefusesExactly page (unreadRequests g page) (unreadAcks g page) (toldNumber (eventOf g page .answer))
+  abbrev Tells : After → Type 0
+  Tells a = RefusesExactly page (unreadRequests g page) (unreadAcks g page) (toldNumber (a .answer))
+
+  event-tells : Tells (eventOf g page)
   event-tells =
       event-ways g page Tells (λ k s. s .exactly) (λ ok f. omega arith) (λ ok i. omega arith)
       (λ ok w b o. let x = wrote-tells g page (room g page) .low in omega arith)
       (λ ok w b o. read-ways g page Tells (λ p. omega arith) (λ r w a. omega arith) (omega arith))
-    where
-      Tells : After → Type 0
-      Tells a = RefusesExactly page (unreadRequests g page) (unreadAcks g page) (toldNumber (a .answer))
 
   pub event-refuses-page : (eventOf g page .answer ≡ number pageWrong) ↔ (length page ≡ pageSize → ⊥)
   event-refuses-page = chain (told-exactly _ pageWrong (omega arith)) (event-tells .wrong-page)
@@ -214,11 +214,9 @@ module _ (g : GuestState) (page : List ℕ) where
   -- ---- a start
 
   module _ (request : Outcome (List ℕ)) (asked : Asked request) where
-    start-tells : RefusesExactly page (unreadRequests g page) (unreadAcks g page) (toldNumber (startOf request g page .answer))
+    start-tells : Tells (startOf request g page)
     start-tells =
-        start-ways g page request
-        (λ (a : After). RefusesExactly page (unreadRequests g page) (unreadAcks g page) (toldNumber (a .answer)))
-        (λ k s. s .exactly) (λ ok f. omega arith) (λ ok w b. omega arith)
+        start-ways g page request Tells (λ k s. s .exactly) (λ ok f. omega arith) (λ ok w b. omega arith)
         (λ ok i k e. let x = asked-refused request asked k e in omega arith)
         (λ ok i m e. let x = wrote-tells (begun g m) page (room g page) .low in omega arith)
 

@@ -3,21 +3,22 @@
 use Rattle.octets.specs.Prelude.{_≡_, refl, sym, ap, subst, _∙_, List, inl, inr, ℕ, _+_, _≤_, _<_, arith, length, getD, eqb}
 use Rattle.octets.specs.Outcome.{Outcome, value, refused}
 use Rattle.octets.proofs.Truth.{same-test}
+use Rattle.messages.specs.Wire.{typeIn}
 use Rattle.page.specs.Page.{pageSize, areaSize, reqConsAt, reqProdAt, rspConsAt, rspProdAt, requestsAt, responsesAt, countIn, less}
-use Rattle.page.specs.Page.{countedByGuest, octetsIn, put}
-use Rattle.ring.specs.Reading.{receivedFrom, Incoming}
+use Rattle.page.specs.Page.{countedByGuest, put}
+use Rattle.ring.specs.Reading.{receivedFrom}
 use Rattle.ring.specs.Writing.{fitting, sentOctets, sent}
 use Rattle.ring.proofs.Sides.{sent-moves, sent-elsewhere, sent-stands}
 use Rattle.page.proofs.Places.{octets-none, put-length}
 use Rattle.page.proofs.Untouched.{guest-counted-beside, guest-counted-length, guest-counted-cons, guest-counted-prod, guest-counted-others}
 use Rattle.page.proofs.Untouched.{guest-counted-octets, octets-agree}
-use Rattle.guest_steps.specs.Guest.{GuestState, idle, maxRequest, outgoing, incoming, withOutgoing, owes, number, pending, requestOwed}
-use Rattle.guest_steps.specs.Guest.{toldNumber, Good}
-use Rattle.guest_steps.specs.Calls.{After, Found, found, unreadRequests, answeredWith, begun, wroteOn, startedBy, readied, startBy, startOf}
-use Rattle.guest_steps.specs.Calls.{Seen, part, judged, concluded, readOn, eventBy, eventOf}
-use Rattle.frontend.specs.Rules.{Asked, Accepted, room, NoOwnCount, moved, RequestPlace, WritesNext, Alike}
+use Rattle.guest_steps.specs.Guest.{GuestState, idle, maxRequest, outgoing, withOutgoing, owes, number, pending, requestOwed, toldNumber}
+use Rattle.guest_steps.specs.Guest.{Good}
+use Rattle.guest_steps.specs.Calls.{After, Found, found, unreadRequests, unreadAcks, answeredWith, begun, wroteOn, startedBy, readied}
+use Rattle.guest_steps.specs.Calls.{startBy, startOf, Seen, concluded, readOn, eventBy, eventOf}
+use Rattle.frontend.specs.Rules.{Asked, Accepted, room, afterReading, NoOwnCount, moved, RequestPlace, WritesNext, Alike}
 use Rattle.frontend.proofs.Goodness.{asked-fits, good-begun, good-started, good-event, start-way}
-use Rattle.frontend.proofs.Ways.{Way, leaves, fails, answers, writes, event-ways, read-ways, event-way}
+use Rattle.frontend.proofs.Ways.{Way, leaves, fails, answers, writes, found-ways, seen-ways, event-ways, read-ways, event-way}
 use Rattle.frontend.proofs.GuestRules.{begins}
 
 -- ---- what octets of a request written leave
@@ -167,55 +168,39 @@ module _ (g : GuestState) (page : List ℕ) (good : Good g) where
 
 -- ---- what is not read
 
--- pages that agree in what a call looks at
-module _ (g : GuestState) (p q : List ℕ) (octets : (n c : ℕ) → octetsIn responsesAt p c n ≡ octetsIn responsesAt q c n) where
-  found-alike : length p ≡ length q → countIn p reqConsAt ≡ countIn q reqConsAt → countIn p rspProdAt ≡ countIn q rspProdAt → found g p ≡ found g q
-  unfolding found
-  found-alike size cons prod = rw (size, cons, prod) refl
-
-  wrote-alike : (t : GuestState) (n : ℕ) → Alike (wroteOn t p n) (wroteOn t q n)
-  unfolding wroteOn
-  wrote-alike t n = record { answer = refl; state = refl }
-
-  concluded-alike : (s : Seen) (i : Incoming) → Alike (concluded s g i p) (concluded s g i q)
-  unfolding concluded
-  concluded-alike part i = record { answer = refl; state = refl }
-  concluded-alike (judged (value r)) i = record { answer = refl; state = refl }
-  concluded-alike (judged (refused k)) i = record { answer = refl; state = refl }
-
-  received-alike : (n : ℕ) → receivedFrom responsesAt p (incoming g) n ≡ receivedFrom responsesAt q (incoming g) n
-  unfolding receivedFrom
-  received-alike n = rw (octets n (g .«rsp_cons»)) refl
-
-  read-alike : (n : ℕ) → Alike (readOn g p n) (readOn g q n)
-  unfolding readOn
-  read-alike n = rw (received-alike n) (concluded-alike _ _)
-
-  event-by-alike : (f : Outcome Found) → Alike (eventBy f g p) (eventBy f g q)
-  unfolding eventBy
-  event-by-alike (value f) =
-      same-test Alike (eqb (g .phase) idle) _ _ _ _ (record { answer = refl; state = refl })
-      (same-test Alike (owes g) _ _ _ _ (wrote-alike g (f .room)) (read-alike (f .unread)))
-  event-by-alike (refused k) = record { answer = refl; state = refl }
-
-  start-by-alike : (r : Outcome ℕ) (request : Outcome (List ℕ)) → Alike (startBy r request g p) (startBy r request g q)
-  unfolding startBy startedBy
-  start-by-alike (value n) (value m) = wrote-alike (begun g m) n
-  start-by-alike (value n) (refused k) = record { answer = refl; state = refl }
-  start-by-alike (refused k) request = record { answer = refl; state = refl }
-
 -- of a page only its length, req_cons, rsp_prod and the response area are read
 module _ (g : GuestState) (p q : List ℕ) (size : length p ≡ length q) (cons : countIn p reqConsAt ≡ countIn q reqConsAt)
     (prod : countIn p rspProdAt ≡ countIn q rspProdAt) (area : (o : ℕ) → o < areaSize → getD p (responsesAt + o) 0 ≡ getD q (responsesAt + o) 0) where
+  found-alike : found g p ≡ found g q
+  unfolding found
+  found-alike = rw (size, cons, prod) refl
+
+  read-alike : Alike (readOn g p (unreadAcks g q)) (readOn g q (unreadAcks g q))
+  unfolding readOn receivedFrom concluded
+  read-alike =
+      let i = afterReading g q in
+      rw (octets-agree responsesAt p q area (unreadAcks g q) (g .«rsp_cons»))
+      (seen-ways g q (typeIn (g .request)) (λ (x : Seen). Alike (concluded x g i p) (concluded x g i q))
+      (λ w. record { answer = refl; state = refl }) (λ r w a. record { answer = refl; state = refl })
+      (record { answer = refl; state = refl }))
+
   pub event-only-these-read : Alike (eventOf g p) (eventOf g q)
+  unfolding eventBy wroteOn
   event-only-these-read =
-      let octets = octets-agree responsesAt p q area in
-      rw (found-alike g p q octets size cons prod) (event-by-alike g p q octets (found g q))
+      rw found-alike
+      (found-ways g q (λ (f : Outcome Found). Alike (eventBy f g p) (eventBy f g q)) (λ k x. record { answer = refl; state = refl })
+      (λ ok f. record { answer = refl; state = refl })
+      (λ ok w. same-test Alike (eqb (g .phase) idle) _ _ _ _ (record { answer = refl; state = refl })
+      (same-test Alike (owes g) _ _ _ _ (record { answer = refl; state = refl }) read-alike)))
+
+  start-by-alike : (r : Outcome ℕ) (request : Outcome (List ℕ)) → Alike (startBy r request g p) (startBy r request g q)
+  unfolding startBy startedBy wroteOn
+  start-by-alike (value n) (value m) = record { answer = refl; state = refl }
+  start-by-alike (value n) (refused k) = record { answer = refl; state = refl }
+  start-by-alike (refused k) request = record { answer = refl; state = refl }
 
   pub start-only-these-read : (request : Outcome (List ℕ)) → Alike (startOf request g p) (startOf request g q)
-  start-only-these-read request =
-      let octets = octets-agree responsesAt p q area in
-      rw (found-alike g p q octets size cons prod) (start-by-alike g p q octets (readied (found g q) g) request)
+  start-only-these-read request = rw found-alike (start-by-alike (readied (found g q) g) request)
 
 -- what the page says of req_prod and rsp_cons makes no difference to answer or state
 module _ (g : GuestState) (page : List ℕ) (c p : ℕ) where

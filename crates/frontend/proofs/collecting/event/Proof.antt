@@ -11,7 +11,8 @@ use Rattle.guest_steps.specs.declared.GuestAnswer.the-variants.{Pending, Refuse
 use Rattle.guest_steps.specs.declared.Finding.{Finding}
 use Rattle.frontend.proofs.Ways.{Within, found-within}
 use Rattle.guest_steps.proofs.Finds.{answered}
-use Rattle.frontend.proofs.Collects.{event-refused, event-idle, event-owing, event-reading, event-good}
+use Rattle.frontend.proofs.Collects.{event-refused, event-idle, event-owing, event-reading}
+use Rattle.frontend.proofs.Goodness.{good-event, left-good}
 use Rattle.frontend.proofs.collecting.event.Statement.{statement}
 use Rattle.frontend.proofs.collecting.event.Tie as tie
 
@@ -34,7 +35,7 @@ module _ (d : tie.After-find) where
   -- what the event gives is good
   concludes : (h : GuestState) (octets : List ℕ) (r : GuestAnswer) → left r h octets ≡ eventOf (lent start) (page start)
       → (left r h octets ≡ eventOf (lent start) (page start)) × Good h
-  concludes h octets r e = (e, event-good (lent start) h (page start) octets r (start .pre) e)
+  concludes h octets r e = (e, left-good r h octets _ e (good-event (lent start) (page start) (start .pre)))
 
 -- once the counts have been found good
 module _ (d : tie.After-finding2) where

@@ -14,7 +14,7 @@ use Rattle.guest_steps.specs.declared.GuestAnswer.the-variants.{Refused}
 use Rattle.guest_steps.specs.declared.Refusal.{Refusal}
 use Rattle.guest_steps.specs.declared.Refusal.the-variants.{KeyRefused, ValueRefused}
 use Rattle.guest_steps.specs.declared.Readiness.{Readiness}
-use Rattle.frontend.proofs.Goodness.{asked-fits, starts-good}
+use Rattle.frontend.proofs.Goodness.{asked-fits, good-started, left-good}
 use Rattle.guest_steps.proofs.Finds.{answered}
 use Rattle.frontend.proofs.Starts.{Wrote, wrote, refuses, has-place, asks, room-found, starts-stopped, starts-refused, starts-with}
 use Rattle.frontend.proofs.starting.start.Statement.{statement}
@@ -35,8 +35,8 @@ module _ (s : tie.Start) where
   concludes : (h : GuestState) (octets : List ℕ) (r : GuestAnswer) → left r h octets ≡ startOf message lent page
       → (left r h octets ≡ startOf message lent page) × Good h
   concludes h octets r e =
-      starts-good message lent h page octets r
-      (asked-fits message (asks (s .args .ask) (s .args .key .now) (s .args .entries .now))) (s .pre) e
+      let asked = asks (s .args .ask) (s .args .key .now) (s .args .entries .now) in
+      (e, left-good r h octets _ e (good-started message lent page (asked-fits message asked) (s .pre)))
 
 -- once it is known what the start finds
 module _ (d : tie.After-ready) where
