@@ -93,16 +93,12 @@ abbrev told-seen : Told → Seen
 told-seen (number k) = cond (eqb k pending) part (judged (refused notAnAck))
 told-seen (acked r) = judged (value r)
 
-concluded-told : (s : Seen) (g : GuestState) (page : List ℕ) → concluded s g (afterReading g page) page .answer ≡ seen-told s
-unfolding concluded
-concluded-told part g page = refl
-concluded-told (judged (value r)) g page = refl
-concluded-told (judged (refused k)) g page = refl
-
 module _ (g : GuestState) (page : List ℕ) where
   read-told : readOn g page (unreadAcks g page) .answer ≡ seen-told (ackSeen g page)
-  unfolding readOn
-  read-told = concluded-told (ackSeen g page) g page
+  unfolding readOn concluded
+  read-told =
+      seen-ways g page (typeIn (g .request)) (λ (x : Seen). concluded x g (afterReading g page) page .answer ≡ seen-told x)
+      (λ w. refl) (λ r w a. refl) refl
 
   read-exactly : (s : Seen) → told-seen (seen-told s) ≡ s → (readOn g page (unreadAcks g page) .answer ≡ seen-told s) ↔ (ackSeen g page ≡ s)
   read-exactly s back =

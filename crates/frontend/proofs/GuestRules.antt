@@ -14,6 +14,7 @@ use Rattle.guest_steps.specs.Calls.{startOf, messageOctets, seen, concluded, re
 use Rattle.frontend.specs.Rules.{Accepted, room, afterReading, Reached, fromSetUp, fromStart, fromEvent}
 use Rattle.frontend.proofs.Goodness.{asked-fits, good-at-setup, good-started, good-event, start-way}
 use Rattle.frontend.proofs.Ways.{Way, leaves, fails, answers, writes, event-ways, read-ways, event-way}
+use Rattle.guest_steps.proofs.Finds.{found-failed, found-counts}
 use Rattle.frontend.proofs.GuestAnswers.{wrote-tells}
 
 -- every reached state is good
@@ -67,34 +68,32 @@ module _ (g : GuestState) (page : List ℕ) where
           → (a .page ≡ page) × (a .state .«req_prod» ≡ g .«req_prod») × (a .state .«rsp_cons» ≡ g .«rsp_cons») × (a .state .phase ≡ failed)
 
   -- what a call finds on a page that is accepted
-  found-failed : Accepted g page → g .phase ≡ failed → found g page ≡ refused notAnAck
-  unfolding found
-  found-failed ok f = rw (eq-eqb _ _ (ok .size), le-leb _ _ (ok .requests), le-leb _ _ (ok .responses), eq-eqb _ _ f) refl
+  finds-failed : Accepted g page → g .phase ≡ failed → refused notAnAck ≡ found g page
+  finds-failed ok = found-failed g page _ (ok .size) refl _ (ok .requests) refl (ok .responses)
 
-  found-counts : Accepted g page → (g .phase ≡ failed → ⊥)
-      → found g page ≡ value (record { room = room g page; unread = unreadAcks g page })
-  unfolding found
-  found-counts ok w = rw (eq-eqb _ _ (ok .size), le-leb _ _ (ok .requests), le-leb _ _ (ok .responses), ne-eqb _ _ w) refl
+  finds-counts : Accepted g page → (g .phase ≡ failed → ⊥)
+      → value (record { room = room g page; unread = unreadAcks g page }) ≡ found g page
+  finds-counts ok = found-counts g page _ (ok .size) refl _ (ok .requests) refl (ok .responses)
 
   -- once an ack was refused: 12 at every later call with good counts, an event or a start, which leaves state and page as they were
   pub failed-event : Accepted g page → g .phase ≡ failed → eventOf g page ≡ refusedWith notAnAck g page
   unfolding eventBy
-  failed-event ok f = rw (found-failed ok f) refl
+  failed-event ok f = rw (← finds-failed ok f) refl
 
   pub failed-start : (request : Outcome (List ℕ)) → Accepted g page → g .phase ≡ failed → startOf request g page ≡ refusedWith notAnAck g page
   unfolding startBy readied
-  failed-start request ok f = rw (found-failed ok f) refl
+  failed-start request ok f = rw (← finds-failed ok f) refl
 
   -- a request begun while one is outstanding: 13
   pub outstanding-start : (request : Outcome (List ℕ)) → Accepted g page → g .phase ≡ outstanding
       → startOf request g page ≡ refusedWith requestOutstanding g page
   unfolding startBy readied
-  outstanding-start request ok busy = rw (found-counts ok (omega arith), ne-eqb (g .phase) idle (omega arith)) refl
+  outstanding-start request ok busy = rw (← finds-counts ok (omega arith), ne-eqb (g .phase) idle (omega arith)) refl
 
   -- else the writer's refusal; else the request is begun
   pub starts : (request : Outcome (List ℕ)) → Accepted g page → g .phase ≡ idle → startOf request g page ≡ startedBy request g page (room g page)
   unfolding startBy readied
-  starts request ok rest = rw (found-counts ok (omega arith), eq-eqb _ _ rest) refl
+  starts request ok rest = rw (← finds-counts ok (omega arith), eq-eqb _ _ rest) refl
 
   pub begins : (request : Outcome (List ℕ)) (m : List ℕ) → request ≡ value m → Accepted g page → g .phase ≡ idle
       → startOf request g page ≡ wroteOn (begun g m) page (room g page)
@@ -108,7 +107,7 @@ module _ (g : GuestState) (page : List ℕ) where
   -- without a request: 0, with nothing read
   pub idle-answers-0 : Accepted g page → g .phase ≡ idle → eventOf g page ≡ answeredWith (number pending) g page
   unfolding eventBy
-  idle-answers-0 ok rest = rw (found-counts ok (omega arith), eq-eqb _ _ rest) refl
+  idle-answers-0 ok rest = rw (← finds-counts ok (omega arith), eq-eqb _ _ rest) refl
 
   -- a call with octets owed reads none, and neither does a start
   pub owed-reads-none : owes g ≡ true → incoming (eventOf g page .state) ≡ incoming g
@@ -147,4 +146,5 @@ module _ (g : GuestState) (page : List ℕ) where
       → (sizeIn (afterReading g page .message .header) ≡ fieldSize + fieldSize → ⊥) → eventOf g page .answer ≡ number notAnAck
   unfolding eventBy readOn seen concluded
   refused-at-header ok busy none there eight sixteen =
-      rw (found-counts ok (omega arith), ne-eqb (g .phase) idle (omega arith), none, le-leb _ _ there, ne-eqb _ _ eight, ne-eqb _ _ sixteen)
+      let waits : g .phase ≡ idle → ⊥ = omega arith in
+      rw (← finds-counts ok (omega arith), ne-eqb _ _ waits, none, le-leb _ _ there, ne-eqb _ _ eight, ne-eqb _ _ sixteen) refl
