@@ -7,9 +7,8 @@ use Rattle.ring.specs.Streams.{beginsWhole, presentPart, Holding}
 use Rattle.page.proofs.Places.{octets-length, octets-take}
 use Rattle.ring.proofs.Sides.{less-advanced}
 use Rattle.ring.proofs.Holdings.{holding-received, present-most, present-prefix}
-use Rattle.interface.specs.States.{Good}
+use Rattle.interface.specs.States.{Good, HostState}
 use Rattle.interface.specs.Events.{readIn}
-use Rattle.interface.specs.States.{HostState}
 
 -- the octets read on the way from s to t
 abbrev pub readTo : HostState → List ℕ → HostState → List ℕ

@@ -1,21 +1,18 @@
 -- How the guest cuts its octets into events makes no difference.
 -- Assumes nothing.
-use Rattle.octets.specs.Prelude.{_≡_, refl, sym, ap, _∙_, List, [], _∷_, _++_, append-assoc, append-nil, true, false, ℕ, _^_, _≤_}
-use Rattle.octets.specs.Prelude.{_<_, arith}
+use Rattle.octets.specs.Prelude.{_≡_, refl, sym, ap, _∙_, List, [], _∷_, _++_, append-assoc, append-nil, true, false, ℕ, _^_, _≤_, _<_}
+use Rattle.octets.specs.Prelude.{arith}
 use Rattle.messages.specs.Settings.{maxQueues, settingsAtSetup}
-use Rattle.page.specs.Refusals.{pageWrong, requestsWrong, responsesWrong}
 use Rattle.page.specs.Page.{requestsAt, responsesAt, less, octetsIn}
 use Rattle.ring.specs.Reading.{whole}
 use Rattle.ring.specs.Streams.{beginsWhole, presentPart}
 use Rattle.page.proofs.Places.{octets-none}
 use Rattle.ring.proofs.Holdings.{holding-none, holding-whole}
-use Rattle.interface.specs.States.{Good, interfaceAtSetup}
-use Rattle.interface.specs.Events.{After, waiting, unread, refusedWith, answeredWith}
-use Rattle.interface.specs.Events.{owes, responded, readIn, carriedOver, eventOf}
-use Rattle.backend.specs.Streams.{messagesWithin, restWithin, messagesIn, restOf, settingsAfter, acksTo, owedOctets}
-use Rattle.backend.specs.Streams.{readBy, writtenBy, stateAfter, octetsRead, octetsWritten, Served}
+use Rattle.interface.specs.States.{Good, interfaceAtSetup, HostState}
+use Rattle.interface.specs.Events.{After, waiting, unread, refusedWith, answeredWith, owes, responded, readIn, carriedOver, eventOf}
+use Rattle.backend.specs.Streams.{messagesWithin, restWithin, messagesIn, restOf, settingsAfter, acksTo, owedOctets, readBy}
+use Rattle.backend.specs.Streams.{writtenBy, stateAfter, octetsRead, octetsWritten, Served}
 use Rattle.backend.specs.Rules.{Accepted, room, afterReading}
-use Rattle.interface.specs.States.{HostState}
 use Rattle.backend.proofs.Branches.{event-cases}
 use Rattle.backend.proofs.Goodness.{good-interface, good-event, good-carried}
 use Rattle.backend.proofs.Falls.{stream-parts, messages-whole, rest-part, falls-so, empty-part}
@@ -23,28 +20,11 @@ use Rattle.backend.proofs.Arrivals.{readTo}
 use Rattle.backend.proofs.Stages.{writtenTo, Stands, present-long, stands-read, stands-carried, stands-responded}
 
 -- to have served a stream is to stand where it falls apart, whichever way that is found
-stands-served : (q : ℕ) (s : HostState) (read written : List ℕ) (ms : List (List ℕ)) (present : List ℕ)
+stands-served : {q : ℕ} {s : HostState} {read written : List ℕ} {ms : List (List ℕ)} {present : List ℕ}
     → Stands q s read written ms present → beginsWhole present ≡ false → Served q s read written
-stands-served q s read written ms present stands part =
-    let falls = falls-so ms present (stands .messages) part in
-    let all : messagesIn read ≡ ms = ap messagesIn (stands .splits) ∙ falls .0 in
-    let rest : restOf read ≡ present = ap restOf (stands .splits) ∙ falls .1 in
-    record {
-      settings = stands .settings ∙ ap (settingsAfter (settingsAtSetup q)) (sym all);
-      acks = stands .acks ∙ ap (acksTo (settingsAtSetup q)) (sym all);
-      present = rw rest (stands .held);
-    }
-
-served-stands : (q : ℕ) (s : HostState) (read written : List ℕ) → Served q s read written
-    → Stands q s read written (messagesIn read) (restOf read)
-served-stands q s read written served =
-    record {
-      splits = sym (stream-parts read);
-      messages = messages-whole read;
-      held = served .present;
-      settings = served .settings;
-      acks = served .acks;
-    }
+stands-served {ms = ms} {present = present} stands part =
+    let falls = rw (← stands .splits) at (falls-so ms present (stands .messages) part) in
+    record { settings = rw (falls .0) (stands .settings); acks = rw (falls .0) (stands .acks); present = rw (falls .1) (stands .held) }
 
 -- a new interface has served the empty stream
 pub served-none : (q : ℕ) → Served q (interfaceAtSetup q) [] []
@@ -70,7 +50,14 @@ module _ (q : ℕ) (s : HostState) (page read written : List ℕ) (good : Good s
   rest = restOf read
 
   stands : Stands q s read written ms rest
-  stands = served-stands q s read written served
+  stands =
+      record {
+        splits = sym (stream-parts read);
+        messages = messages-whole read;
+        held = served .present;
+        settings = served .settings;
+        acks = served .acks;
+      }
 
   -- where a count stays, nothing is read or written
   none-read : octetsIn requestsAt page (s .incoming .cons) (less (s .incoming .cons) (s .incoming .cons)) ≡ []
@@ -88,8 +75,8 @@ module _ (q : ℕ) (s : HostState) (page read written : List ℕ) (good : Good s
   serves-owing : Accepted s page → Serves (responded s page (room s page))
   unfolding responded
   serves-owing ok =
-      let next = stands-responded q s read written ms rest page (room s page) stands (good .outgoing) (ok .size) in
-      rw (none-read, append-nil read) (stands-served q _ read _ ms rest next (rest-part read))
+      let next = stands-responded stands page (room s page) (good .outgoing) (ok .size) in
+      rw (none-read, append-nil read) (stands-served next (rest-part read))
 
   -- octets read
   module _ (ok : Accepted s page) where
@@ -104,7 +91,7 @@ module _ (q : ℕ) (s : HostState) (page read written : List ℕ) (good : Good s
     behind = rest ++ octetsIn requestsAt page (s .incoming .cons) (unread s page)
 
     stands-after : Stands q after stream written ms (presentPart behind)
-    stands-after = stands-read q s read written ms rest page (unread s page) good stands (rest-part read) (ok .requests)
+    stands-after = stands-read stands page (unread s page) good (rest-part read) (ok .requests)
 
     whole-after : beginsWhole (presentPart behind) ≡ whole (after .incoming .message)
     whole-after = sym (holding-whole (after .incoming .message) (presentPart behind) (stands-after .held))
@@ -114,31 +101,19 @@ module _ (q : ℕ) (s : HostState) (page read written : List ℕ) (good : Good s
     unfolding readIn
     serves-part waits =
         rw (none-written (answeredWith waiting after page .page), append-nil written)
-        (stands-served q after stream written ms (presentPart behind) stands-after (whole-after ∙ waits))
+        (stands-served stands-after (whole-after ∙ waits))
 
     -- whole: carried out, and ack octets written
     serves-whole : owes s ≡ false → whole (after .incoming .message) ≡ true → Serves (responded (carriedOver after) page (room s page))
     unfolding readIn carriedOver responded
     serves-whole idle all =
-        let one-more = ms ++ (presentPart behind ∷ []) in
-        let long = present-long behind (whole-after ∙ all) in
-        let carried = stands-carried q after stream written ms (presentPart behind) stands-after long idle in
+        let carried = stands-carried stands-after (present-long behind (whole-after ∙ all)) idle in
         let keeps = good-carried s page (unread s page) good .outgoing in
-        let next = stands-responded q (carriedOver after) stream written one-more [] page (room s page) carried keeps (ok .size) in
-        stands-served q _ stream _ one-more [] next (empty-part [] (omega arith))
+        stands-served (stands-responded carried page (room s page) keeps (ok .size)) (empty-part [] (omega arith))
 
--- each event serves the octets that it reads, and writes acks in order
-pub served-event : (q : ℕ) (s : HostState) (page read written : List ℕ) → Good s → Served q s read written
-    → Served q (eventOf s page .state) (read ++ readBy s page) (written ++ writtenBy s page)
-served-event q s page read written good served =
-    let refused = serves-refused q s page read written good served in
-    event-cases s page (Serves q s page read written good served)
-    (λ e. refused pageWrong)
-    (λ e r. refused requestsWrong)
-    (λ e r a. refused responsesWrong)
-    (λ ok owing. serves-owing q s page read written good served ok)
-    (λ ok idle part. serves-part q s page read written good served ok part)
-    (λ ok idle all. serves-whole q s page read written good served ok idle all)
+  -- each event serves the octets that it reads, and writes acks in order
+  pub served-event : Served q (eventOf s page .state) (read ++ readBy s page) (written ++ writtenBy s page)
+  served-event = event-cases s page Serves (λ k x. serves-refused k) (λ ok owing. serves-owing ok) (λ ok idle. serves-part ok) serves-whole
 
 -- and so do events one after the other
 served-events : (pages : List (List ℕ)) (q : ℕ) (s : HostState) (read written : List ℕ) → Good s → Served q s read written

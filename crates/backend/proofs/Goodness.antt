@@ -9,11 +9,10 @@ use Rattle.page.specs.Page.{requestsAt, octetsIn}
 use Rattle.ring.specs.Reading.{whole, receivedFrom}
 use Rattle.ring.specs.Writing.{owed, GoodOutgoing}
 use Rattle.ring.proofs.Sides.{grown, none-waits, good-received, good-sent, good-incoming-at-setup, good-outgoing-at-setup}
-use Rattle.interface.specs.States.{Good, interfaceAtSetup}
-use Rattle.interface.specs.Events.{After, owes, responded, readIn, carriedOver, unread, eventOf}
-use Rattle.backend.specs.Rules.{afterReading}
-use Rattle.interface.specs.States.{HostState}
-use Rattle.backend.proofs.Branches.{event-cases}
+use Rattle.interface.specs.States.{Good, interfaceAtSetup, HostState}
+use Rattle.interface.specs.Events.{After, waiting, refusedWith, answeredWith, owes, responded, readIn, carriedOver, unread, eventOf}
+use Rattle.backend.specs.Rules.{Accepted, room, afterReading}
+use Rattle.backend.proofs.Branches.{Stopped, event-cases}
 
 -- setup
 pub good-interface : (q : ℕ) → 1 ≤ q → q ≤ maxQueues → Good (interfaceAtSetup q)
@@ -87,10 +86,20 @@ good-carried s page n good =
     good-over (readIn s page n) (good .settings) (good .outgoing) (sizes .0 ∙ good .incoming .header)
     (sizes .1 ∙ good .incoming .payload) (omega arith)
 
--- an event
+over-prod : (s : HostState) (page : List ℕ) → carriedOver (afterReading s page) .outgoing .prod ≡ s .outgoing .prod
+unfolding carriedOver readIn
+over-prod s page = refl
+
+-- the ways of an event on a good state: octets of an ack are written by a good state t, or the message waits
+pub good-ways : (s : HostState) (page : List ℕ) → Good s → (P : After → Type 0) → ((k : ℕ) → Stopped s page k → P (refusedWith k s page))
+    → (Accepted s page → (t : HostState) → t .outgoing .prod ≡ s .outgoing .prod → Good t → P (responded t page (room s page)))
+    → (Accepted s page → Good (afterReading s page) → P (answeredWith waiting (afterReading s page) page))
+    → P (eventOf s page)
+good-ways s page good P stopped responds waits =
+    event-cases s page P stopped (λ ok owing. responds ok s refl good)
+    (λ ok idle part. waits ok (good-read s page (unread s page) good idle part))
+    (λ ok idle all. responds ok (carriedOver (afterReading s page)) (over-prod s page) (good-carried s page (unread s page) good))
+
 pub good-event : (s : HostState) (page : List ℕ) → Good s → Good (eventOf s page .state)
 good-event s page good =
-    event-cases s page (λ (a : After). Good (a .state)) (λ e. good) (λ e r. good) (λ e r a. good)
-    (λ ok owing. good-responded s page _ good)
-    (λ ok idle part. good-read s page (unread s page) good idle part)
-    (λ ok idle all. good-responded (carriedOver (afterReading s page)) page _ (good-carried s page (unread s page) good))
+    good-ways s page good (λ (a : After). Good (a .state)) (λ k x. good) (λ ok t same well. good-responded t page _ well) (λ ok well. well)

@@ -1,29 +1,25 @@
 -- The stages of an event: octets read, the message carried out, its ack written. Each keeps to the stream.
 -- Assumes nothing.
-use Rattle.octets.specs.Prelude.{_≡_, refl, sym, ap, ap₂, _∙_, List, [], _∷_, _++_, append-assoc, append-nil, Bool, true, false}
-use Rattle.octets.specs.Prelude.{ℕ, _+_, _-_, _≤_, arith, length, take, drop, length-take, length-drop, take-append-drop}
-use Rattle.octets.specs.Prelude.{drop-of-length-le, length-take-le, take-all, take-append-le, drop-append-le, drop-drop}
-use Rattle.octets.specs.Prelude.{getD-take, leb, leb-true, leb-false, ltb-false}
+use Rattle.octets.specs.Prelude.{_≡_, refl, sym, ap, ap₂, _∙_, List, [], _∷_, _++_, append-assoc, append-nil, Bool, false≢true, true, false}
+use Rattle.octets.specs.Prelude.{ℕ, _+_, _-_, _≤_, arith, length, take, drop, length-take, length-drop, take-append-drop, drop-of-length-le}
+use Rattle.octets.specs.Prelude.{length-take-le, take-all, take-append-le, drop-append-le, drop-drop, getD-take, leb, leb-true, leb-false}
+use Rattle.octets.specs.Prelude.{ltb-false}
 use Rattle.octets.proofs.Numbers.{number-same}
 use Rattle.messages.specs.Wire.{headerSize, maxPayload, typeIn, sizeIn, payloadIn}
-use Rattle.messages.specs.Settings.{settingsAtSetup}
-use Rattle.messages.specs.Requests.{maxAck, ackIn, carriedOut, carriedMessage}
-use Rattle.messages.specs.Settings.{Settings}
-use Rattle.messages.specs.Requests.{Carried}
+use Rattle.messages.specs.Settings.{settingsAtSetup, Settings}
+use Rattle.messages.specs.Requests.{maxAck, carriedOut, carriedMessage}
 use Rattle.messages.proofs.Theorems.{header-bounds-payload, header-alone}
-use Rattle.page.specs.Page.{pageSize, areaSize, requestsAt, responsesAt, less, advanced, octetsIn, put}
-use Rattle.ring.specs.Writing.{owed, fitting, sentOctets, GoodOutgoing}
-use Rattle.ring.specs.Reading.{messageLength}
+use Rattle.page.specs.Page.{pageSize, areaSize, requestsAt, responsesAt, less, octetsIn, put}
+use Rattle.ring.specs.Writing.{owed, fitting, sentOctets, GoodOutgoing, Outgoing}
+use Rattle.ring.specs.Reading.{messageLength, Message}
 use Rattle.ring.specs.Streams.{beginsWhole, presentPart, Holding}
-use Rattle.ring.specs.Reading.{Message}
-use Rattle.ring.specs.Writing.{Outgoing}
-use Rattle.page.proofs.Untouched.{counted-octets, put-stands}
-use Rattle.ring.proofs.Sides.{less-advanced}
-use Rattle.ring.proofs.Holdings.{size-take, part-whole, part-all, holding-none, holding-header}
-use Rattle.interface.specs.States.{Good}
+use Rattle.page.proofs.Untouched.{counted-octets}
+use Rattle.octets.proofs.Truth.{by-test}
+use Rattle.ring.proofs.Sides.{sent-stands}
+use Rattle.ring.proofs.Holdings.{size-take, holding-none, holding-header}
+use Rattle.interface.specs.States.{Good, HostState}
 use Rattle.interface.specs.Events.{After, owes, responded, readIn, carriedIn, carriedOver}
 use Rattle.backend.specs.Streams.{joined, Messages, settingsAfter, acksTo, owedOctets}
-use Rattle.interface.specs.States.{HostState}
 use Rattle.backend.proofs.Arrivals.{readTo, read-held, read-octets}
 use Rattle.backend.proofs.Falls.{first-long, joined-snoc, messages-snoc, settings-snoc, acks-snoc}
 
@@ -42,13 +38,10 @@ pub record Stands (q : ℕ) (s : HostState) (read written : List ℕ) (ms : List
 
 -- a present message that is whole is a message
 pub present-long : (xs : List ℕ) → beginsWhole (presentPart xs) ≡ true → length (presentPart xs) ≡ messageLength (presentPart xs)
-present-long xs w = by (beginsWhole xs) refl
-  where
-    by : (b : Bool) → beginsWhole xs ≡ b → length (presentPart xs) ≡ messageLength (presentPart xs)
-    by true e = rw (part-whole xs e) (first-long xs e)
-    by false e =
-        let all = leb-true (messageLength xs) (length xs) (ap beginsWhole (sym (part-all xs e)) ∙ w) in
-        absurd (omega (arith, leb-false (messageLength xs) (length xs) e))
+unfolding presentPart
+present-long xs =
+    by-test (λ (l : List ℕ). beginsWhole l ≡ true → length l ≡ messageLength l) (beginsWhole xs) _ _ (λ e _. first-long xs e)
+    (λ e w. absurd (false≢true (sym e ∙ w)))
 
 -- the message held is carried out as the octets read are
 module _ (st : Settings) (m : Message) (xs : List ℕ) (held : Holding m xs) (long : length xs ≡ messageLength xs) where
@@ -71,14 +64,11 @@ module _ (st : Settings) (m : Message) (xs : List ℕ) (held : Holding m xs) (lo
 
   pub carried-held : carriedOut st (typeIn (m .header)) (sizeIn (m .header)) (m .payload) ≡ carriedMessage st xs []
   carried-held =
-      ap₂ (λ (t n : ℕ). carriedOut st t n (m .payload)) type-held size-held
-      ∙ by (leb (sizeIn xs) maxPayload) refl
-      ∙ ap (carriedOut st (typeIn xs) (sizeIn xs)) (sym (append-nil (payloadIn xs)))
-    where
-      by : (b : Bool) → leb (sizeIn xs) maxPayload ≡ b
-          → carriedOut st (typeIn xs) (sizeIn xs) (m .payload) ≡ carriedOut st (typeIn xs) (sizeIn xs) (payloadIn xs)
-      by true e = header-bounds-payload st (typeIn xs) (sizeIn xs) (m .payload) (payloadIn xs) (payload-held (leb-true _ _ e))
-      by false e = header-alone st (typeIn xs) (sizeIn xs) (m .payload) (payloadIn xs) (leb-false _ _ e)
+      let carried = carriedOut st (typeIn xs) (sizeIn xs) in
+      rw (type-held, size-held, append-nil)
+      (by-test (λ (_ : Bool). carried (m .payload) ≡ carried (payloadIn xs)) (leb (sizeIn xs) maxPayload) true false
+      (λ e. header-bounds-payload st (typeIn xs) (sizeIn xs) (m .payload) (payloadIn xs) (payload-held (leb-true _ _ e)))
+      (λ e. header-alone st (typeIn xs) (sizeIn xs) (m .payload) (payloadIn xs) (leb-false _ _ e)))
 
 -- octets of an ack sent, and those that are still owed, are those that were
 sent-rest : (o : Outgoing) (n : ℕ) → GoodOutgoing maxAck o → n ≤ owed o
@@ -100,29 +90,19 @@ written-sent : (s : HostState) (page : List ℕ) (room : ℕ) → GoodOutgoing m
 unfolding responded
 written-sent s page room good size =
     let o = s .outgoing in
-    let p = o .prod in
-    let n = fitting o room in
-    let xs = sentOctets o n in
-    let into = put responsesAt page p xs in
-    let left : length (drop (o .written) (o .octets)) ≡ length (o .octets) - o .written = length-drop (o .written) (o .octets) in
-    let long : length xs ≡ n = length-take-le n (drop (o .written) (o .octets)) (omega arith) in
-    counted-octets responsesAt into (s .incoming .cons) (advanced p n) (less (advanced p n) p) p (omega arith)
-    ∙ ap (octetsIn responsesAt into p) (less-advanced p n (good .count) (omega arith) ∙ sym long)
-    ∙ put-stands responsesAt xs page p (omega arith) (omega arith)
+    counted-octets responsesAt (put responsesAt page (o .prod) (sentOctets o (fitting o room))) _ _ _ (o .prod) (omega arith)
+    ∙ sent-stands o room maxAck (o .prod) good (omega arith) refl responsesAt page (omega arith) (omega arith)
 
-module _ (q : ℕ) (s : HostState) (read written : List ℕ) (ms : List (List ℕ)) (present : List ℕ) where
+module _ {q : ℕ} {s : HostState} {read written : List ℕ} {ms : List (List ℕ)} {present : List ℕ}
+    (stands : Stands q s read written ms present) where
   -- octets of the present message read
-  pub stands-read : (page : List ℕ) (n : ℕ) → Good s → Stands q s read written ms present → beginsWhole present ≡ false → n ≤ areaSize
+  pub stands-read : (page : List ℕ) (n : ℕ) → Good s → beginsWhole present ≡ false → n ≤ areaSize
       → Stands q (readIn s page n) (read ++ readTo s page (readIn s page n)) written ms
       (presentPart (present ++ octetsIn requestsAt page (s .incoming .cons) n))
   unfolding readIn
-  stands-read page n good stands part most =
-      let octets = readTo s page (readIn s page n) in
+  stands-read page n good part most =
       record {
-        splits =
-            ap (λ (l : List ℕ). l ++ octets) (stands .splits)
-            ∙ append-assoc (joined ms) present octets
-            ∙ ap (λ (l : List ℕ). joined ms ++ l) (read-octets s page n present good (stands .held) part most);
+        splits = rw (stands .splits, append-assoc, read-octets s page n present good (stands .held) part most) refl;
         messages = stands .messages;
         held = read-held s page n present good (stands .held) part most;
         settings = stands .settings;
@@ -130,16 +110,14 @@ module _ (q : ℕ) (s : HostState) (read written : List ℕ) (ms : List (List �
       }
 
   -- the present message carried out
-  pub stands-carried : Stands q s read written ms present → length present ≡ messageLength present → owes s ≡ false
+  pub stands-carried : length present ≡ messageLength present → owes s ≡ false
       → Stands q (carriedOver s) read written (ms ++ (present ∷ [])) []
   unfolding carriedOver
-  stands-carried stands long idle =
-      let m = s .incoming .message in
+  stands-carried long idle =
       let o = s .outgoing in
       let new = settingsAtSetup q in
-      let st = settingsAfter new ms in
-      let carried : carriedIn s ≡ carriedMessage st present [] =
-      carried-held (s .settings) m present (stands .held) long ∙ ap (λ (t : Settings). carriedMessage t present []) (stands .settings) in
+      let carried : carriedIn s ≡ carriedMessage (settingsAfter new ms) present [] =
+      carried-held (s .settings) (s .incoming .message) present (stands .held) long ∙ rw (stands .settings) refl in
       let over : o .length ≤ o .written = ltb-false _ _ idle in
       let none : owedOctets s ≡ [] =
       drop-of-length-le (take (o .length) (o .octets)) {i = o .written} (omega (arith, length-take (o .length) (o .octets))) in
@@ -147,30 +125,20 @@ module _ (q : ℕ) (s : HostState) (read written : List ℕ) (ms : List (List �
         splits = stands .splits ∙ sym (append-nil (joined (ms ++ (present ∷ []))) ∙ joined-snoc ms present);
         messages = messages-snoc ms present (stands .messages) long;
         held = holding-none _ (stands .held .header-size) (stands .held .payload-size) refl;
-        settings = ap (λ (c : Carried). c .settings) carried ∙ sym (settings-snoc new ms present);
-        acks =
-            ap (λ (l : List ℕ). written ++ l) (ap ackIn carried)
-            ∙ ap (λ (l : List ℕ). l ++ ackIn (carriedMessage st present []))
-            (sym (append-nil written) ∙ ap (λ (l : List ℕ). written ++ l) (sym none) ∙ stands .acks)
-            ∙ sym (acks-snoc new ms present);
+        settings = cc (carried, settings-snoc new ms present);
+        acks = cc (carried, none, append-nil written, stands .acks, acks-snoc new ms present);
       }
 
   -- octets of the ack written
-  pub stands-responded : (page : List ℕ) (room : ℕ) → Stands q s read written ms present → GoodOutgoing maxAck (s .outgoing) → length page ≡ pageSize
+  pub stands-responded : (page : List ℕ) (room : ℕ) → GoodOutgoing maxAck (s .outgoing) → length page ≡ pageSize
       → Stands q (responded s page room .state) read (written ++ writtenTo s (responded s page room)) ms present
   unfolding responded
-  stands-responded page room stands good size =
+  stands-responded page room good size =
       let o = s .outgoing in
-      let n = fitting o room in
-      let rest = drop (o .written + n) (take (o .length) (o .octets)) in
       record {
         splits = stands .splits;
         messages = stands .messages;
         held = stands .held;
         settings = stands .settings;
-        acks =
-            ap (λ (l : List ℕ). written ++ l ++ rest) (written-sent s page room good size)
-            ∙ append-assoc written (sentOctets o n) rest
-            ∙ ap (λ (l : List ℕ). written ++ l) (sent-rest o n good (omega arith))
-            ∙ stands .acks;
+        acks = rw (written-sent s page room good size, append-assoc, sent-rest o (fitting o room) good (omega arith)) (stands .acks);
       }

@@ -1,13 +1,12 @@
 -- The ways of an event, as the definitions say them.
 -- Assumes nothing.
-use Rattle.octets.specs.Prelude.{_≡_, refl, ap, List, true, false, ℕ, _-_, _≤_, _<_, length, eq-eqb, ne-eqb, le-leb, lt-leb}
+use Rattle.octets.specs.Prelude.{_≡_, refl, List, true, false, ℕ, _-_, _≤_, _<_, length, eq-eqb, ne-eqb, le-leb, lt-leb}
 use Rattle.page.specs.Refusals.{pageWrong, requestsWrong, responsesWrong}
 use Rattle.page.specs.Page.{pageSize, areaSize, counted}
 use Rattle.ring.specs.Reading.{whole}
-use Rattle.interface.specs.States.{HostState, Good}
-use Rattle.interface.specs.Events.{After, waiting, unread, unreadAcks, refusedWith, owes}
-use Rattle.interface.specs.Events.{responded, readIn, carriedOver, afterRead, proceeded, eventOf, left}
-use Rattle.backend.proofs.Goodness.{good-event}
+use Rattle.interface.specs.States.{HostState}
+use Rattle.interface.specs.Events.{waiting, unread, unreadAcks, refusedWith, owes, responded, readIn, carriedOver, afterRead, proceeded}
+use Rattle.interface.specs.Events.{eventOf, left}
 
 -- ack octets owed: they are written
 pub proceeds-owing : (s : HostState) (page : List ℕ) (n room : ℕ) → owes s ≡ true → responded s page room ≡ proceeded s page n room
@@ -55,9 +54,3 @@ pub goes-on : (s : HostState) (page : List ℕ) (n m : ℕ) → length page ≡ 
 unfolding eventOf
 goes-on s page n m size requests few responses some =
     rw (eq-eqb _ _ size, ← requests, le-leb _ _ few, ← responses, le-leb _ _ some) refl
-
--- the state that an event leaves is good
-pub event-good : (s t : HostState) (page octets : List ℕ) (r : ℕ) → Good s → left r t octets ≡ eventOf s page → Good t
-event-good s t page octets r good e =
-    let same : t ≡ eventOf s page .state = ap (λ (a : After). a .state) e in
-    rw same (good-event s page good)

@@ -1,25 +1,18 @@
 -- What the functions that collect an ack did, as the definitions say it.
 -- Assumes nothing.
-use Rattle.octets.specs.Prelude.{_≡_, refl, ap, List, [], _++_, append-nil, true, false, ℕ, _+_, _≤_, _<_, arith, length, take}
-use Rattle.octets.specs.Prelude.{drop, drop-of-length-le, take-at, drop-at, take-append-add, eq-eqb, ne-eqb, le-leb, lt-leb}
-use borrow.Rule.Slice.PartMut.{putMid}
+use Rattle.octets.specs.Prelude.{_≡_, refl, List, true, false, ℕ, eq-eqb, ne-eqb}
 use Rattle.octets.specs.Outcome.{value, refused}
-use Rattle.messages.specs.Wire.{headerSize, fieldSize, typeIn, sizeIn}
+use Rattle.messages.specs.Wire.{typeIn}
 use Rattle.page.specs.Page.{responsesAt, countedByGuest}
-use Rattle.ring.specs.Reading.{whole, receivedFrom}
-use Rattle.ring.specs.Reading.{Message}
-use Rattle.ring.specs.Reading.{Incoming}
+use Rattle.ring.specs.Reading.{receivedFrom, Incoming}
 use Rattle.guest_messages.specs.Refusals.{notAnAck}
-use Rattle.guest_messages.specs.Reader.{Reading, readAck}
-use Rattle.guest_steps.specs.Guest.{maxAckPayload, idle, failed, incoming, withIncoming, owes}
-use Rattle.guest_steps.specs.Guest.{Good, acked, toldOf}
-use Rattle.guest_steps.specs.Calls.{After, Found, found, refusedWith, wroteOn}
-use Rattle.guest_steps.specs.Calls.{sizeWrong, messageOctets, Seen, part, judged, seen, doneWith, concluded, readOn, eventBy, eventOf, left}
-use Rattle.guest_steps.specs.Guest.{GuestState}
+use Rattle.guest_messages.specs.Reader.{Reading}
+use Rattle.guest_steps.specs.Guest.{idle, failed, incoming, withIncoming, owes, acked, toldOf, GuestState}
+use Rattle.guest_steps.specs.Calls.{Found, found, refusedWith, wroteOn, Seen, part, judged, seen, doneWith, concluded, readOn, eventBy}
+use Rattle.guest_steps.specs.Calls.{eventOf, left}
 use Rattle.guest_steps.specs.declared.Refusal.the-variants.{AckRefused}
 use Rattle.guest_steps.specs.declared.GuestAnswer.{GuestAnswer}
 use Rattle.guest_steps.specs.declared.GuestAnswer.the-variants.{Pending, Refused}
-use Rattle.frontend.proofs.Goodness.{good-event}
 
 -- octets of the ack read by a guest whose request has type t, so that the reading side is i and s is seen
 pub reads-on : (g : GuestState) (page : List ℕ) (n t : ℕ) (i : Incoming) (s : Seen) → typeIn (g .request) ≡ t
@@ -67,9 +60,3 @@ module _ (g : GuestState) (page : List ℕ) (f : Found) (finds : value f ≡ fou
     pub event-reading : owes g ≡ false → readOn g page (f .unread) ≡ eventOf g page
     unfolding eventBy
     event-reading done = rw (← finds, ne-eqb _ _ busy, done) refl
-
--- the state that an event leaves is good
-pub event-good : (g h : GuestState) (page octets : List ℕ) (r : GuestAnswer) → Good g → left r h octets ≡ eventOf g page → Good h
-event-good g h page octets r good e =
-    let same : h ≡ eventOf g page .state = ap (λ (a : After). a .state) e in
-    rw same (good-event g page good)

@@ -1,27 +1,25 @@
 -- Setup gives a good guest, and so does every call on a good one.
 -- Assumes nothing.
-use Rattle.octets.specs.Prelude.{_≡_, refl, ap, _∙_, List, _++_, Bool, true, false, cond, ℕ, _^_, _≤_, _<_, arith, length, drop}
-use Rattle.octets.specs.Prelude.{length-append, length-drop, eqb, leb, eqb-true, eqb-false, ltb-false}
+use Rattle.octets.specs.Prelude.{_≡_, refl, sym, ap, subst, _∙_, List, _++_, false, ℕ, _^_, _≤_, _<_, arith, length, drop, length-append}
+use Rattle.octets.specs.Prelude.{length-drop, eqb, leb, eqb-true, ltb-false}
 use Rattle.octets.specs.Numbers.{octetsOf}
 use Rattle.octets.specs.Outcome.{Outcome, value, refused}
-use Rattle.octets.proofs.Truth.{by-test}
-use Rattle.octets.proofs.Outcomes.{value-same, test-value}
+use Rattle.octets.proofs.Outcomes.{value-same, value-not-refused, test-value, test-refused}
 use Rattle.toeplitz.specs.Hash.{keyLength}
-use Rattle.messages.specs.Wire.{fieldSize, message, setFlagsType, setKeyType, setMappingType, typeIn, allFlags}
+use Rattle.toeplitz.specs.Refusals.{keyLengthWrong}
+use Rattle.messages.specs.Wire.{fieldSize, message, setFlagsType, setKeyType, setMappingType, allFlags}
 use Rattle.messages.specs.Settings.{isListed}
 use Rattle.messages.proofs.Powers.{listed-parts}
 use Rattle.page.specs.Page.{responsesAt, octetsIn}
-use Rattle.ring.specs.Reading.{whole, receivedFrom}
-use Rattle.ring.specs.Reading.{Incoming}
+use Rattle.ring.specs.Reading.{receivedFrom}
 use Rattle.ring.proofs.Sides.{grown, none-waits, good-received, good-sent}
-use Rattle.guest_messages.specs.Reader.{Reading}
+use Rattle.guest_messages.specs.Refusals.{valueNotListed, bufferTooShort}
 use Rattle.guest_messages.specs.Writer.{fieldsOf, getFlagsMessage, setFlagsMessage, setKeyMessage, setMappingMessage}
-use Rattle.guest_steps.specs.Guest.{idle, failed, maxRequest, maxAckPayload, incoming, withIncoming, owes, guestAtSetup, Good}
-use Rattle.guest_steps.specs.Calls.{After, Found, found, begun, wroteOn, startedBy, readied, startBy, startOf, doneWith}
-use Rattle.guest_steps.specs.Calls.{Seen, part, judged, sizeWrong, seen, concluded, readOn, eventBy, eventOf, leftBy}
-use Rattle.frontend.specs.Rules.{Asked, getsFlags, setsFlags, setsKey, setsMapping}
-use Rattle.guest_steps.specs.Guest.{GuestState}
+use Rattle.guest_steps.specs.Guest.{idle, failed, maxRequest, maxAckPayload, incoming, owes, guestAtSetup, Good, GuestState}
+use Rattle.guest_steps.specs.Calls.{After, unreadAcks, begun, wroteOn, startOf, doneWith, readOn, eventOf}
+use Rattle.frontend.specs.Rules.{Asked, getsFlags, setsFlags, setsKey, setsMapping, room, afterReading}
 use Rattle.guest_messages.proofs.Theorems.{message-lengths}
+use Rattle.frontend.proofs.Ways.{Way, leaves, writes, event-ways, read-ways, start-ways}
 
 -- the writer's messages have their place
 pub short-get-flags : (m : List ℕ) → getFlagsMessage ≡ value m → length m ≤ maxRequest
@@ -87,99 +85,70 @@ good-begun g m short rest good =
       in-turn = λ h. good .at-rest rest;
     }
 
-good-started-by : (o : Outcome (List ℕ)) (g : GuestState) (page : List ℕ) (room : ℕ)
-    → Fits o → g .phase ≡ idle → Good g → Good (startedBy o g page room .state)
-unfolding startedBy
-good-started-by (value m) g page room short rest good = good-wrote (begun g m) page room (good-begun g m (short m refl) rest good)
-good-started-by (refused k) g page room short rest good = good
+-- the writer refuses by 8 or 11
+abbrev pub WriterRefuses : ℕ → Type 0
+WriterRefuses k = (keyLengthWrong ≤ k) × (k ≤ valueNotListed) × (k ≡ bufferTooShort → ⊥)
 
-good-start-by : (f : Outcome Found) (o : Outcome (List ℕ)) (g : GuestState) (page : List ℕ)
-    → Fits o → Good g → Good (startBy (readied f g) o g page .state)
-unfolding readied startBy
-good-start-by (value f) o g page short good =
-    by-test (λ (r : Outcome ℕ). Good (startBy r o g page .state)) (eqb (g .phase) idle) _ _
-    (λ rest. good-started-by o g page (f .room) short (eqb-true _ _ rest) good) (λ busy. good)
-good-start-by (refused k) o g page short good = good
+pub asked-refused : (request : Outcome (List ℕ)) → Asked request → (k : ℕ) → request ≡ refused k → WriterRefuses k
+asked-refused _ getsFlags k e = absurd (value-not-refused _ k e)
+asked-refused _ (setsFlags flags) k e = let x = test-refused (leb flags allFlags) _ _ k e .1 in omega arith
+asked-refused _ (setsKey key) k e = let x = test-refused (eqb (length key) keyLength) _ _ k e .1 in omega arith
+asked-refused _ (setsMapping entries) k e = let x = test-refused (isListed (length entries)) _ _ k e .1 in omega arith
 
+-- a start
 pub good-started : (o : Outcome (List ℕ)) (g : GuestState) (page : List ℕ) → Fits o → Good g → Good (startOf o g page .state)
-good-started o g page short good = good-start-by (found g page) o g page short good
+good-started o g page short good =
+    start-ways g page o (λ (a : After). Good (a .state)) (λ k s. good) (λ ok f. good) (λ ok w b. good) (λ ok i k e. good)
+    (λ ok i m e. good-wrote (begun g m) page (room g page) (good-begun g m (short m e) i good))
 
--- of an ack a part is there only where it is not whole
-pub judged-all : (o : Outcome Reading) → judged o ≡ part → ⊥
-judged-all o e =
-    let z : _≡_ {A = ℕ} 0 1 = cc in
-    omega arith
-
-part-only : (w all : Bool) (o p : Outcome Reading) → cond w (judged o) (cond all (judged p) part) ≡ part → all ≡ false
-part-only true all o p e = absurd (judged-all o e)
-part-only false true o p e = absurd (judged-all p e)
-part-only false false o p e = refl
+pub start-way : (request : Outcome (List ℕ)) (g : GuestState) (page : List ℕ)
+    → Way g page (Asked request × Good g) ⊥ (startOf request g page)
+start-way request g page =
+    start-ways g page request (Way g page (Asked request × Good g) ⊥) (λ k s. leaves k (omega arith)) (λ ok f. leaves _ (omega arith))
+    (λ ok w b. leaves _ (omega arith)) (λ ok i k e. leaves k (λ a. let x = asked-refused request (a .0) k e in omega arith))
+    (λ ok i m e. writes (begun g m) (ok .size) refl refl (λ a. good-begun g m (asked-fits request (a .0) m e) i (a .1)))
 
 -- octets of the ack read: part of it, or all, which ends it
-module _ (g : GuestState) (page : List ℕ) (n : ℕ) (good : Good g) (busy : g .phase ≡ idle → ⊥) (none : g .length ≤ g .written) where
-  abbrev read : Incoming
-  read = receivedFrom responsesAt page (incoming g) n
-
-  good-part : whole (read .message) ≡ false → Good (withIncoming g read)
-  good-part waits =
-      record {
-        phase = good .phase;
-        request = good .request;
-        ack = good-received responsesAt page (incoming g) n maxAckPayload (good .ack) waits;
-        at-rest = λ e. absurd (busy e);
-        in-turn = λ h. absurd (omega arith);
-      }
-
-  good-done : (phase rspCons : ℕ) → phase ≤ failed → rspCons < 2 ^ 32 → Good (doneWith g (read .message) phase rspCons)
+module _ (g : GuestState) (page : List ℕ) (good : Good g) (busy : g .phase ≡ idle → ⊥) (none : owes g ≡ false) where
+  good-done : (phase rspCons : ℕ) → phase ≤ failed → rspCons < 2 ^ 32 → Good (doneWith g (afterReading g page .message) phase rspCons)
   unfolding receivedFrom
   good-done phase rspCons known small =
-      let x = grown (octetsIn responsesAt page (g .«rsp_cons») n) (incoming g .message) in
+      let x = grown (octetsIn responsesAt page (g .«rsp_cons») (unreadAcks g page)) (incoming g .message) in
       record {
         phase = known;
         request = good .request;
         ack = record {
           header = x .header ∙ good .ack .header;
           payload = x .payload ∙ good .ack .payload;
-          waiting = none-waits (read .message .header);
+          waiting = none-waits (afterReading g page .message .header);
           count = small;
         };
         at-rest = λ e. refl;
         in-turn = λ h. refl;
       }
 
-  read-small : read .cons < 2 ^ 32
+  read-small : afterReading g page .cons < 2 ^ 32
   unfolding receivedFrom
   read-small = omega arith
 
-  part-waits : (t : ℕ) → seen t (read .message) ≡ part → whole (read .message) ≡ false
-  unfolding seen
-  part-waits t e = part-only (sizeWrong (read .message)) (whole (read .message)) _ _ e
-
-  good-concluded : (s : Seen) → (s ≡ part → whole (read .message) ≡ false) → Good (concluded s g read page .state)
-  unfolding concluded
-  good-concluded part waits = good-part (waits refl)
-  good-concluded (judged (value r)) waits = good-done idle (read .cons) (omega arith) read-small
-  good-concluded (judged (refused k)) waits = good-done failed (g .«rsp_cons») (omega arith) (good .ack .count)
-
-  good-read : Good (readOn g page n .state)
-  unfolding readOn
-  good-read = good-concluded (seen (typeIn (g .request)) (read .message)) (part-waits (typeIn (g .request)))
-
-good-event-by : (f : Outcome Found) (g : GuestState) (page : List ℕ) → Good g → Good (eventBy f g page .state)
-unfolding eventBy
-good-event-by (value f) g page good =
-    by-test (λ (a : After). Good (a .state)) (eqb (g .phase) idle) _ _ (λ rest. good)
-    (λ busy. by-test (λ (a : After). Good (a .state)) (owes g) _ _ (λ owing. good-wrote g page (f .room) good)
-    (λ none. good-read g page (f .unread) good (eqb-false _ _ busy) (ltb-false _ _ none)))
-good-event-by (refused k) g page good = good
+  good-read : Good (readOn g page (unreadAcks g page) .state)
+  good-read =
+      read-ways g page (λ (a : After). Good (a .state))
+      (λ waits. record {
+        phase = good .phase;
+        request = good .request;
+        ack = good-received responsesAt page (incoming g) (unreadAcks g page) maxAckPayload (good .ack) waits;
+        at-rest = λ e. absurd (busy e);
+        in-turn = λ h. absurd (let l = ltb-false (g .written) (g .length) none in omega arith);
+      })
+      (λ r w a. good-done idle (afterReading g page .cons) (omega arith) read-small)
+      (good-done failed (g .«rsp_cons») (omega arith) (good .ack .count))
 
 pub good-event : (g : GuestState) (page : List ℕ) → Good g → Good (eventOf g page .state)
-good-event g page good = good-event-by (found g page) g page good
+good-event g page good =
+    event-ways g page (λ (a : After). Good (a .state)) (λ k s. good) (λ ok f. good) (λ ok i. good)
+    (λ ok w b o. good-wrote g page (room g page) good) (λ ok w b o. good-read g page good b o)
 
--- what a start in place leaves is what the definition says, and good
-pub starts-good : (o : Outcome (List ℕ)) (g t : GuestState) (page octets : List ℕ) (r : ℕ)
-    → Fits o → Good g → leftBy r t octets ≡ startOf o g page
-    → (leftBy r t octets ≡ startOf o g page) × Good t
-starts-good o g t page octets r short good e =
-    let same : t ≡ startOf o g page .state = ap (λ (a : After). a .state) e in
-    (e, rw same (good-started o g page short good))
+-- what a call in place leaves is good where what the definition leaves is
+pub left-good : (x a : After) → x ≡ a → Good (a .state) → Good (x .state)
+left-good x a e = subst Good (sym (ap (λ (y : After). y .state) e))

@@ -1,48 +1,32 @@
 -- What a start does, by what it finds and by what the writer answers.
 -- Assumes nothing.
-use Rattle.octets.specs.Prelude.{_≡_, refl, sym, ap, _∙_, List, _++_, Bool, true, false, cond, ℕ, _+_, _-_, _≤_, _<_, arith}
-use Rattle.octets.specs.Prelude.{length, getD, set, drop, eqb, leb, ltb, eq-eqb, ne-eqb, le-leb, lt-leb, leb-false}
+use Rattle.octets.specs.Prelude.{_≡_, refl, sym, ap, _∙_, List, _++_, ℕ, _+_, _-_, _≤_, _<_, arith, length, drop, eqb, leb, leb-false}
 use Rattle.octets.specs.Outcome.{Outcome, value, refused}
 use Rattle.octets.proofs.Outcomes.{value-same, refused-same, value-not-refused, test-value}
 use Rattle.octets.proofs.Truth.{by-test}
-use Rattle.toeplitz.specs.Hash.{keyLength}
-use Rattle.toeplitz.specs.Refusals.{keyLengthWrong}
-use Rattle.messages.specs.Wire.{allFlags}
-use Rattle.messages.specs.Settings.{isListed}
-use Rattle.page.specs.Refusals.{pageWrong, requestsWrong, responsesWrong}
-use Rattle.page.specs.Page.{pageSize, areaSize, requestsAt, advanced, countedByGuest, put}
-use Rattle.ring.specs.Writing.{fitting, sentOctets, sent}
-use Rattle.guest_messages.specs.Refusals.{valueNotListed, bufferTooShort, notAnAck}
+use Rattle.page.specs.Page.{pageSize, areaSize}
+use Rattle.guest_messages.specs.Refusals.{bufferTooShort}
 use Rattle.guest_messages.specs.Writer.{After, written, writtenOutcomeOf, after}
 use Rattle.guest_messages.specs.declared.Written.{Written}
 use Rattle.guest_messages.specs.declared.Written.the-variants.{Length, Buffer}
 use Rattle.guest_steps.specs.Refusals.{requestOutstanding}
-use Rattle.guest_steps.specs.Guest.{GuestState, maxRequest, idle, outstanding, failed, guestOf, guestIn, outgoing, withOutgoing}
-use Rattle.guest_steps.specs.Guest.{number, pending, requestOwed, toldOf}
-use Rattle.guest_steps.specs.Calls.{Found, unreadRequests, unreadAcks, found, wroteOn, messageOf, startedBy, readied, startBy, startOf, leftBy}
+use Rattle.guest_steps.specs.Guest.{GuestState, maxRequest, idle, outstanding, guestOf}
+use Rattle.guest_steps.specs.Calls.{Found, unreadRequests, found, wroteOn, messageOf, startedBy, readied, startBy, startOf, leftBy}
 use Rattle.frontend.specs.Rules.{Asked, getsFlags, setsFlags, setsKey, setsMapping}
 use Rattle.guest_steps.specs.declared.Ask.{Ask}
 use Rattle.guest_steps.specs.declared.Ask.the-variants.{GetFlags, SetFlags, SetKey, SetMapping}
-use Rattle.frontend.proofs.Goodness.{asked-fits}
-use Rattle.guest_steps.proofs.Stored.{stored-outgoing}
+use Rattle.frontend.proofs.Goodness.{asked-fits, asked-refused}
 use Rattle.frontend.proofs.Ways.{found-ways}
 
-module _ (g : GuestState) (page : List ℕ) where
-  -- room for a start is room in the area of a whole page
-  module _ (room : ℕ) where
-    abbrev Known : Outcome Found → Type 0
-    Known o = value room ≡ readied o g → (length page ≡ pageSize) × (room ≤ areaSize)
-
-    not-refused : (k : ℕ) → Known (refused k)
-    unfolding readied
-    not-refused k e = absurd (value-not-refused room k e)
-
-    pub room-found : value room ≡ readied (found g page) g → (length page ≡ pageSize) × (room ≤ areaSize)
-    unfolding readied
-    room-found =
-        found-ways g page Known (λ w. not-refused _) (λ s m. not-refused _) (λ s r m. not-refused _) (λ ok f. not-refused _)
-        (λ ok w e. let same = test-value (eqb (g .phase) idle) (areaSize - unreadRequests g page) room requestOutstanding (sym e) .1 in
-        (ok .size, omega (arith, same)))
+-- room for a start is room in the area of a whole page
+pub room-found : (g : GuestState) (page : List ℕ) (room : ℕ) → value room ≡ readied (found g page) g
+    → (length page ≡ pageSize) × (room ≤ areaSize)
+unfolding readied
+room-found g page room =
+    found-ways g page (λ (o : Outcome Found). value room ≡ readied o g → (length page ≡ pageSize) × (room ≤ areaSize))
+    (λ k s e. absurd (value-not-refused room k e)) (λ ok f e. absurd (value-not-refused room _ e))
+    (λ ok w e. let same = test-value (eqb (g .phase) idle) (areaSize - unreadRequests g page) room requestOutstanding (sym e) .1 in
+    (ok .size, omega (arith, same)))
 
 -- what a writer that answers a length n has done
 pub record Wrote (o : Outcome (List ℕ)) (request : List ℕ) (n : ℕ) (buffer : List ℕ) : Type 0 where
@@ -51,67 +35,45 @@ pub record Wrote (o : Outcome (List ℕ)) (request : List ℕ) (n : ℕ) (buffer
   pub size : n ≡ length message
   pub octets : buffer ≡ message ++ drop (length message) request
 
--- a writer's answer for a message that it has, by whether the message has its place
-module _ (m request buffer : List ℕ) (w : Written) where
-  pub wrote-message : (n : ℕ) → w ≡ Length n → after w buffer ≡ written (value m) request → Wrote (value m) request n buffer
-  unfolding written
-  wrote-message n l e =
-      by-test (λ (a : After). after (Length n) buffer ≡ a → Wrote (value m) request n buffer) (leb (length m) (length request)) _ _
-      (λ t f. record {
-        message = m;
-        is = refl;
-        size = value-same n (length m) (ap (λ (a : After). a .answer) f);
-        octets = ap (λ (a : After). a .buffer) f;
-      })
-      (λ t f. absurd (value-not-refused n bufferTooShort (ap (λ (a : After). a .answer) f))) (rw l at e)
-
-  -- it is refused for its place alone
-  pub no-other-refusal : (k : ℕ) → writtenOutcomeOf w ≡ refused k → after w buffer ≡ written (value m) request
-      → (k ≡ bufferTooShort) × (length request < length m)
-  unfolding written
-  no-other-refusal k r =
-      by-test (λ (a : After). after w buffer ≡ a → (k ≡ bufferTooShort) × (length request < length m)) (leb (length m) (length request)) _ _
-      (λ t f. absurd (value-not-refused (length m) k (sym (ap (λ (a : After). a .answer) f) ∙ r)))
-      (λ t f. (sym (refused-same bufferTooShort k (sym (ap (λ (a : After). a .answer) f) ∙ r)), leb-false _ _ t))
-
-pub wrote : (o : Outcome (List ℕ)) (request buffer : List ℕ) (w : Written) (n : ℕ) → w ≡ Length n → after w buffer ≡ written o request
-    → Wrote o request n buffer
+-- the ways that a writer can go: it has a message, which has its place or has none, or it refuses
+written-ways : (o : Outcome (List ℕ)) (request : List ℕ) (P : Outcome ℕ → List ℕ → Type 0)
+    → ((m : List ℕ) → o ≡ value m → P (value (length m)) (m ++ drop (length m) request))
+    → ((m : List ℕ) → o ≡ value m → length request < length m → P (refused bufferTooShort) request)
+    → ((k : ℕ) → o ≡ refused k → P (refused k) request)
+    → P (written o request .answer) (written o request .buffer)
 unfolding written
-wrote (value m) request buffer w n l e = wrote-message m request buffer w n l e
-wrote (refused k) request buffer w n l e = absurd (value-not-refused n k (ap writtenOutcomeOf (sym l) ∙ ap (λ (a : After). a .answer) e))
+written-ways (value m) request P placed short refusing =
+    by-test (λ (a : After). P (a .answer) (a .buffer)) (leb (length m) (length request)) _ _ (λ t. placed m refl)
+    (λ t. short m refl (leb-false _ _ t))
+written-ways (refused k) request P placed short refusing = refusing k refl
 
--- what a writer that refuses by another number than that of its place has done
-pub refuses : (o : Outcome (List ℕ)) (request buffer : List ℕ) (w : Written) (k : ℕ) → (k ≡ bufferTooShort → ⊥)
-    → writtenOutcomeOf w ≡ refused k
-    → after w buffer ≡ written o request → (o ≡ refused k) × (buffer ≡ request)
-unfolding written
-refuses (value m) request buffer w k other r e = absurd (other (no-other-refusal m request buffer w k r e .0))
-refuses (refused j) request buffer w k other r e =
-    (ap refused (refused-same j k (sym (ap (λ (a : After). a .answer) e) ∙ r)), ap (λ (a : After). a .buffer) e)
+module _ (o : Outcome (List ℕ)) (request buffer : List ℕ) (w : Written) (e : after w buffer ≡ written o request) where
+  answer-same : writtenOutcomeOf w ≡ written o request .answer
+  answer-same = ap (λ (a : After). a .answer) e
 
--- and it refuses none of the four requests for its place
-module _ (o : Outcome (List ℕ)) (asked : Asked o) where
-  never-ten : (o ≡ refused bufferTooShort) → ⊥
-  never-ten = never o asked
-    where
-      test : (t : Bool) (m : List ℕ) (k : ℕ) → (k ≡ bufferTooShort → ⊥) → cond t (value m) (refused k) ≡ refused bufferTooShort
-          → ⊥
-      test true m k other e = value-not-refused m bufferTooShort e
-      test false m k other e = other (refused-same k bufferTooShort e)
+  buffer-same : buffer ≡ written o request .buffer
+  buffer-same = ap (λ (a : After). a .buffer) e
 
-      never : (r : Outcome (List ℕ)) → Asked r → r ≡ refused bufferTooShort → ⊥
-      never _ getsFlags e = value-not-refused _ bufferTooShort e
-      never _ (setsFlags flags) e = test (leb flags allFlags) _ valueNotListed (λ x. omega (arith, x)) e
-      never _ (setsKey key) e = test (eqb (length key) keyLength) _ keyLengthWrong (λ x. omega (arith, x)) e
-      never _ (setsMapping entries) e = test (isListed (length entries)) _ valueNotListed (λ x. omega (arith, x)) e
+  pub wrote : (n : ℕ) → w ≡ Length n → Wrote o request n buffer
+  wrote n l =
+      written-ways o request (λ (a : Outcome ℕ) (b : List ℕ). value n ≡ a → buffer ≡ b → Wrote o request n buffer)
+      (λ m is x y. record { message = m; is = is; size = value-same _ _ x; octets = y })
+      (λ m is _ x _. absurd (value-not-refused n _ x)) (λ k is x _. absurd (value-not-refused n k x))
+      (ap writtenOutcomeOf (sym l) ∙ answer-same) buffer-same
 
-  pub has-place : (request buffer : List ℕ) → length request ≡ maxRequest → after Buffer buffer ≡ written o request → ⊥
-  unfolding written
-  has-place request buffer long = by o refl
-    where
-      by : (r : Outcome (List ℕ)) → o ≡ r → after Buffer buffer ≡ written r request → ⊥
-      by (value m) is e = omega (arith, no-other-refusal m request buffer Buffer bufferTooShort refl e .1, asked-fits o asked m is)
-      by (refused k) is e = never-ten (is ∙ ap refused (sym (refused-same bufferTooShort k (ap (λ (a : After). a .answer) e))))
+  -- what a writer that refuses by another number than that of its place has done
+  pub refuses : (k : ℕ) → (k ≡ bufferTooShort → ⊥) → writtenOutcomeOf w ≡ refused k → (o ≡ refused k) × (buffer ≡ request)
+  refuses k other r =
+      written-ways o request (λ (a : Outcome ℕ) (b : List ℕ). refused k ≡ a → buffer ≡ b → (o ≡ refused k) × (buffer ≡ request))
+      (λ m is x _. absurd (value-not-refused _ k (sym x))) (λ m is _ x _. absurd (other (refused-same k _ x)))
+      (λ j is x y. (is ∙ ap refused (sym (refused-same k j x)), y)) (sym r ∙ answer-same) buffer-same
+
+  -- and it refuses none of the four requests for its place
+  pub has-place : Asked o → length request ≡ maxRequest → w ≡ Buffer → ⊥
+  has-place asked long is-buffer =
+      written-ways o request (λ (a : Outcome ℕ) (_ : List ℕ). refused bufferTooShort ≡ a → ⊥) (λ m is x. value-not-refused _ _ (sym x))
+      (λ m is short x. omega (arith, asked-fits o asked m is)) (λ k is x. asked-refused o asked k is .2 (sym (refused-same _ k x)))
+      (ap writtenOutcomeOf (sym is-buffer) ∙ answer-same)
 
 -- what is asked for is one of the four requests
 pub asks : (ask : Ask) (key entries : List ℕ) → Asked (messageOf ask key entries)

@@ -3,8 +3,7 @@
 use Rattle.octets.specs.Prelude.{_≡_, List, true, ℕ, _≤_, _<_, length, take, length-take-le}
 use lib.Pow.{pow-pos}
 use Rattle.toeplitz.specs.Hash.{keyLength}
-use Rattle.messages.specs.Settings.{maxEntries, isListed, tableOf, Good}
-use Rattle.messages.specs.Settings.{Settings}
+use Rattle.messages.specs.Settings.{maxEntries, isListed, tableOf, Good, Settings}
 use Rattle.messages.proofs.Powers.{power-exactly, listed-parts}
 use Rattle.steering.specs.Steering.{Usable, queueIn}
 use Rattle.steering.proofs.Theorems.{queue-below}

@@ -2,3 +2,4 @@
 pub mod Places
 pub mod CountLaws
 pub mod Untouched
+pub mod Tests

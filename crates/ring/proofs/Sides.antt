@@ -1,13 +1,14 @@
 -- Both sides of a ring stay good, and octets are counted as they are moved.
 -- Assumes nothing.
-use Rattle.octets.specs.Prelude.{_≡_, refl, _∙_, List, [], _∷_, false, ℕ, suc, _+_, _-_, _^_, _≤_, _<_, arith, length, length-set}
-use Rattle.octets.specs.Prelude.{ltb, lt-leb}
+use Rattle.octets.specs.Prelude.{_≡_, refl, sym, ap, _∙_, List, [], _∷_, false, ℕ, suc, _+_, _-_, _%_, _^_, _≤_, _<_, arith, length}
+use Rattle.octets.specs.Prelude.{length-set, getD, drop, length-drop, length-take-le, ltb, lt-leb}
 use Rattle.octets.proofs.Truth.{by-test}
 use Rattle.messages.specs.Wire.{headerSize, maxPayload}
 use Rattle.messages.specs.Requests.{maxAck}
-use Rattle.page.specs.Page.{advanced, less, octetsIn}
+use Rattle.page.specs.Page.{areaSize, advanced, less, octetsIn, put}
+use Rattle.page.proofs.Untouched.{put-other, put-stands}
 use Rattle.ring.specs.Reading.{messageLength, isWhole, whole, withOctet, received, receivedFrom, incomingAtSetup, GoodIncoming}
-use Rattle.ring.specs.Writing.{fitting, sent, outgoingAtSetup, GoodOutgoing}
+use Rattle.ring.specs.Writing.{fitting, sent, sentOctets, outgoingAtSetup, GoodOutgoing}
 use Rattle.ring.specs.Reading.{Message}
 use Rattle.ring.specs.Reading.{Incoming}
 use Rattle.ring.specs.Writing.{Outgoing}
@@ -64,3 +65,27 @@ good-incoming-at-setup = record { header = refl; payload = refl; waiting = none-
 
 pub good-outgoing-at-setup : GoodOutgoing maxAck outgoingAtSetup
 good-outgoing-at-setup = record { size = refl; within = omega arith; short = omega arith; count = omega arith }
+
+-- as many octets sent as fit: the count moves by them, from c, and they stand in the area, where nothing else changes
+module _ (o : Outgoing) (room most c : ℕ) (good : GoodOutgoing most o) (small : most < 2 ^ 32) (same : o .prod ≡ c) where
+  pub sent-moves : less (sent o (fitting o room) .prod) c ≡ fitting o room
+  sent-moves = omega (arith, good .count, good .short)
+
+  sent-length : length (sentOctets o (fitting o room)) ≡ fitting o room
+  sent-length =
+      length-take-le (fitting o room) (drop (o .written) (o .octets)) (omega (arith, length-drop (o .written) (o .octets), good))
+
+  pub sent-elsewhere : (area : ℕ) (page : List ℕ) (i : ℕ)
+      → ((j : ℕ) → j < less (sent o (fitting o room) .prod) c → i ≡ area + (c + j) % areaSize → ⊥)
+      → getD (put area page (o .prod) (sentOctets o (fitting o room))) i 0 ≡ getD page i 0
+  sent-elsewhere area page i free =
+      put-other area (sentOctets o (fitting o room)) page (o .prod) i
+      (λ j l e. free j (omega (arith, sent-moves, sent-length)) (e ∙ ap (λ (p : ℕ). area + (p + j) % areaSize) same))
+
+  pub sent-stands : (area : ℕ) (page : List ℕ) → fitting o room ≤ areaSize → area + areaSize ≤ length page
+      → octetsIn area (put area page (o .prod) (sentOctets o (fitting o room))) (o .prod) (less (sent o (fitting o room) .prod) c)
+      ≡ sentOctets o (fitting o room)
+  sent-stands area page few long =
+      let xs = sentOctets o (fitting o room) in
+      ap (octetsIn area (put area page (o .prod) xs) (o .prod)) (sent-moves ∙ sym sent-length)
+      ∙ put-stands area xs page (o .prod) (omega (arith, sent-length)) long

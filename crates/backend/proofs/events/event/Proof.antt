@@ -1,10 +1,11 @@
 -- `backend::events::event` meets its contract: its tests are those of `eventOf`, in their order.
 -- Assumes nothing.
-use Rattle.octets.specs.Prelude.{_≡_, _∙_, List, ℕ, _≤_, _<_, arith, length, needs}
+use Rattle.octets.specs.Prelude.{_≡_, sym, ap, subst, _∙_, List, ℕ, _≤_, _<_, arith, length, needs}
 use Rattle.page.specs.Page.{pageSize, areaSize}
-use Rattle.interface.specs.States.{HostState, interfaceIn}
-use Rattle.interface.specs.Events.{unread, unreadAcks}
-use Rattle.backend.proofs.Steps.{refused-page, refused-requests, refused-responses, goes-on, event-good}
+use Rattle.interface.specs.States.{HostState, Good, interfaceIn}
+use Rattle.interface.specs.Events.{After, unread, unreadAcks}
+use Rattle.backend.proofs.Steps.{refused-page, refused-requests, refused-responses, goes-on}
+use Rattle.backend.proofs.Goodness.{good-event}
 use Rattle.backend.proofs.events.event.Statement.{statement}
 use Rattle.backend.proofs.events.event.Tie as tie
 
@@ -68,7 +69,7 @@ returns-4 c =
     let s = start d in
     let some : e .unread-by-other .result ≤ areaSize = omega (arith, test .if3 .left) in
     let same = done .proceed .ensures ∙ goes-on (lent s) (page s) _ _ (size d) (requests d) (few e) (responses e) some in
-    (same, event-good (lent s) _ (page s) _ (done .proceed .result) (s .pre) same)
+    (same, subst Good (sym (ap (λ (a : After). a .state) same)) (good-event (lent s) (page s) (s .pre)))
 
 pub event-spec : {M : Type 1} → statement M
 event-spec =

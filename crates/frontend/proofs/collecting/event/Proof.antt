@@ -1,7 +1,7 @@
 -- `frontend::collecting::event` meets its contract: its tests are those of `eventOf`, in their order, and what it calls does what
 -- the definitions say of each case.
 -- Assumes nothing.
-use Rattle.octets.specs.Prelude.{_≡_, refl, sym, ap, _∙_, List, ℕ, arith, needs, lt-ltb, le-ltb}
+use Rattle.octets.specs.Prelude.{_≡_, sym, ap, _∙_, List, ℕ, needs, lt-ltb, le-ltb}
 use Rattle.octets.specs.Outcome.{value}
 use Rattle.guest_steps.specs.Guest.{GuestState, Good, guestIn}
 use Rattle.guest_steps.specs.Calls.{Found, found, eventOf, left}
@@ -11,7 +11,8 @@ use Rattle.guest_steps.specs.declared.GuestAnswer.the-variants.{Pending, Refuse
 use Rattle.guest_steps.specs.declared.Finding.{Finding}
 use Rattle.frontend.proofs.Ways.{Within, found-within}
 use Rattle.guest_steps.proofs.Finds.{answered}
-use Rattle.frontend.proofs.Collects.{event-refused, event-idle, event-owing, event-reading, event-good}
+use Rattle.frontend.proofs.Collects.{event-refused, event-idle, event-owing, event-reading}
+use Rattle.frontend.proofs.Goodness.{good-event, left-good}
 use Rattle.frontend.proofs.collecting.event.Statement.{statement}
 use Rattle.frontend.proofs.collecting.event.Tie as tie
 
@@ -34,7 +35,7 @@ module _ (d : tie.After-find) where
   -- what the event gives is good
   concludes : (h : GuestState) (octets : List ℕ) (r : GuestAnswer) → left r h octets ≡ eventOf (lent start) (page start)
       → (left r h octets ≡ eventOf (lent start) (page start)) × Good h
-  concludes h octets r e = (e, event-good (lent start) h (page start) octets r (start .pre) e)
+  concludes h octets r e = (e, left-good _ _ e (good-event (lent start) (page start) (start .pre)))
 
 -- once the counts have been found good
 module _ (d : tie.After-finding2) where

@@ -11,7 +11,7 @@ use Rattle.guest_steps.specs.Guest.{GuestState, Good, maxRequest, guestIn}
 use Rattle.guest_steps.specs.Calls.{found, messageOf, readied, startOf, leftBy}
 use Rattle.guest_steps.specs.Inner.{readinessOf}
 use Rattle.guest_steps.specs.declared.Readiness.{Readiness}
-use Rattle.frontend.proofs.Goodness.{asked-fits, starts-good}
+use Rattle.frontend.proofs.Goodness.{asked-fits, good-started, left-good}
 use Rattle.guest_steps.proofs.Finds.{numbered}
 use Rattle.frontend.proofs.Starts.{Wrote, wrote, refuses, has-place, asks, room-found, starts-stopped, starts-refused, starts-with}
 use Rattle.frontend.proofs.starting.start.Statement.{statement}
@@ -32,8 +32,8 @@ module _ (s : tie.Start) where
   concludes : (h : GuestState) (octets : List ℕ) (r : ℕ) → leftBy r h octets ≡ startOf message lent page
       → (leftBy r h octets ≡ startOf message lent page) × Good h
   concludes h octets r e =
-      starts-good message lent h page octets r
-      (asked-fits message (asks (s .args .ask) (s .args .key .now) (s .args .entries .now))) (s .pre) e
+      let asked = asks (s .args .ask) (s .args .key .now) (s .args .entries .now) in
+      (e, left-good _ _ e (good-started message lent page (asked-fits message asked) (s .pre)))
 
 -- once it is known what the start finds
 module _ (d : tie.After-ready) where
@@ -69,8 +69,8 @@ module _ (d : tie.After-write-request) where
       × Good (guestIn (from .args .numbers .now) (d .write-request .last .1 .1 .1 .0) (from .args .header .now) (from .args .payload .now))
   refused-by w e k other r =
       let a = from .args in
-      let both = refuses (message from) (a .request .now) _ (d .write-request .result) k other (ap writtenOutcomeOf e ∙ r)
-      (d .write-request .ensures) in
+      let both = refuses (message from) (a .request .now) _ (d .write-request .result) (d .write-request .ensures) k other
+      (ap writtenOutcomeOf e ∙ r) in
       concludes from _ (page from) k
       (ap (λ (b : List ℕ). leftBy k (guestIn (a .numbers .now) b (a .header .now) (a .payload .now)) (page from)) (both .1)
       ∙ starts-refused (message from) (lent from) (page from) room there k (both .0))
@@ -78,7 +78,7 @@ module _ (d : tie.After-write-request) where
   -- or has written it
   wrote-it : (n : ℕ) → d .write-request .result ≡ Length n
       → Wrote (message from) (from .args .request .now) n (d .write-request .last .1 .1 .1 .0)
-  wrote-it n l = wrote (message from) _ _ (d .write-request .result) n l (d .write-request .ensures)
+  wrote-it = wrote (message from) _ _ (d .write-request .result) (d .write-request .ensures)
 
 returns : tie.Need-returns
 returns c =
@@ -124,8 +124,8 @@ returns-5 c =
     let d = c .before .before in
     let s = from d in
     let a = s .args in
-    absurd (has-place (message s) (asks (a .ask) (a .key .now) (a .entries .now)) (a .request .now) _ (s .pre .request .size)
-    (rw (c .enum-told3 .given .1) at (d .write-request .ensures)))
+    absurd (has-place (message s) (a .request .now) _ _ (d .write-request .ensures) (asks (a .ask) (a .key .now) (a .entries .now))
+    (s .pre .request .size) (c .enum-told3 .given .1))
 
 pub start-spec : {M : Type 1} → statement M
 start-spec =
