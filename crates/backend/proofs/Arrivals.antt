@@ -44,7 +44,4 @@ module _ (s : HostState) (page : List ℕ) (n : ℕ) (present : List ℕ) (good 
     -- and with them the message is what the stream has of it
     pub read-octets : present ++ readTo s page (readIn s page n) ≡ presentPart (present ++ fresh)
     read-octets =
-        let c = s .incoming .cons in
-        ap (λ (k : ℕ). present ++ octetsIn requestsAt page c k) read-count
-        ∙ ap (λ (l : List ℕ). present ++ l) (sym (octets-take requestsAt page c more n more-most))
-        ∙ sym (present-prefix present fresh part)
+        rw (read-count, ← (octets-take requestsAt page (s .incoming .cons) more n more-most)) (sym (present-prefix present fresh part))

@@ -7,12 +7,19 @@ use Rattle.messages.specs.Settings.{maxQueues, Good as GoodSettings}
 use Rattle.messages.proofs.Theorems.{ack-fits, good-at-setup, good-stays-good}
 use Rattle.page.specs.Page.{requestsAt, octetsIn}
 use Rattle.ring.specs.Reading.{whole, receivedFrom}
-use Rattle.ring.specs.Writing.{owed, GoodOutgoing}
+use Rattle.ring.specs.Writing.{owed}
 use Rattle.ring.proofs.Sides.{grown, none-waits, good-received, good-sent, good-incoming-at-setup, good-outgoing-at-setup}
 use Rattle.interface.specs.States.{Good, interfaceAtSetup, HostState}
 use Rattle.interface.specs.Events.{After, waiting, refusedWith, answeredWith, owes, responded, readIn, carriedOver, unread, eventOf}
 use Rattle.backend.specs.Rules.{Accepted, room, afterReading}
 use Rattle.backend.proofs.Branches.{Stopped, event-cases}
+
+-- a state that can go on to the end of an event, once octets have been read
+pub record Concludes (s : HostState) : Type 0 where
+  pub settings : GoodSettings (s .settings)
+  pub carried : Good (carriedOver s)
+  pub cons : s .incoming .cons < 2 ^ 32
+  pub prod : s .outgoing .prod < 2 ^ 32
 
 -- setup
 pub good-interface : (q : ℕ) → 1 ≤ q → q ≤ maxQueues → Good (interfaceAtSetup q)
@@ -35,17 +42,8 @@ good-responded s page room good =
       in-turn = λ h. good .in-turn (omega arith);
     }
 
--- after reading
+-- after reading: the message waits, or it is carried out, the next one begins, and the ack has its place
 module _ (s : HostState) (page : List ℕ) (n : ℕ) (good : Good s) where
-  pub read-settings : readIn s page n .settings ≡ s .settings
-  unfolding readIn
-  read-settings = refl
-
-  -- the own counts stay below 2 ^ 32
-  pub read-counts : (readIn s page n .incoming .cons < 2 ^ 32) × (readIn s page n .outgoing .prod < 2 ^ 32)
-  unfolding readIn receivedFrom
-  read-counts = (omega arith, good .outgoing .count)
-
   pub good-read : owes s ≡ false → whole (readIn s page n .incoming .message) ≡ false → Good (readIn s page n)
   unfolding readIn
   good-read idle waits =
@@ -58,33 +56,25 @@ module _ (s : HostState) (page : List ℕ) (n : ℕ) (good : Good s) where
         in-turn = λ h. absurd (nothing-owed h);
       }
 
-  -- the sizes of the message's parts stay
-  pub read-sizes : (length (readIn s page n .incoming .message .header) ≡ length (s .incoming .message .header))
-      × (length (readIn s page n .incoming .message .payload) ≡ length (s .incoming .message .payload))
-  unfolding readIn receivedFrom
-  read-sizes = let g = grown (octetsIn requestsAt page (s .incoming .cons) n) (s .incoming .message) in (g .header, g .payload)
-
--- after carrying out: the settings are good, the next message begins, and the ack has its place
-module _ (s : HostState) (settings : GoodSettings (s .settings)) (outgoing : GoodOutgoing maxAck (s .outgoing)) where
-  good-over : length (s .incoming .message .header) ≡ headerSize → length (s .incoming .message .payload) ≡ maxPayload
-      → s .incoming .cons < 2 ^ 32 → Good (carriedOver s)
-  unfolding carriedOver
-  good-over header payload count =
-      let m = s .incoming .message in
+  pub good-carried : Good (carriedOver (readIn s page n))
+  unfolding carriedOver readIn receivedFrom
+  good-carried =
+      let m = readIn s page n .incoming .message in
+      let x = grown (octetsIn requestsAt page (s .incoming .cons) n) (s .incoming .message) in
+      let header : length (m .header) ≡ headerSize = x .header ∙ good .incoming .header in
+      let payload : length (m .payload) ≡ maxPayload = x .payload ∙ good .incoming .payload in
       let fits = ack-fits (s .settings) (typeIn (m .header)) (sizeIn (m .header)) (m .payload) in
       record {
-        settings = good-stays-good (s .settings) (typeIn (m .header)) (sizeIn (m .header)) (m .payload) settings (omega arith);
-        incoming = record { header = header; payload = payload; waiting = none-waits (m .header); count = count };
-        outgoing = record { size = fits .0; within = omega arith; short = fits .1; count = outgoing .count };
+        settings = good-stays-good (s .settings) (typeIn (m .header)) (sizeIn (m .header)) (m .payload) (good .settings) (omega arith);
+        incoming = record { header = header; payload = payload; waiting = none-waits (m .header); count = omega arith };
+        outgoing = record { size = fits .0; within = omega arith; short = fits .1; count = good .outgoing .count };
         in-turn = λ h. refl;
       }
 
-pub good-carried : (s : HostState) (page : List ℕ) (n : ℕ) → Good s → Good (carriedOver (readIn s page n))
-unfolding readIn receivedFrom
-good-carried s page n good =
-    let sizes = read-sizes s page n good in
-    good-over (readIn s page n) (good .settings) (good .outgoing) (sizes .0 ∙ good .incoming .header)
-    (sizes .1 ∙ good .incoming .payload) (omega arith)
+  -- what carrying out asks of the state
+  pub read-concludes : Concludes (readIn s page n)
+  unfolding readIn receivedFrom
+  read-concludes = record { settings = good .settings; carried = good-carried; cons = omega arith; prod = good .outgoing .count }
 
 over-prod : (s : HostState) (page : List ℕ) → carriedOver (afterReading s page) .outgoing .prod ≡ s .outgoing .prod
 unfolding carriedOver readIn

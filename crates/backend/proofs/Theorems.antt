@@ -1,7 +1,7 @@
 -- What readers ask of an event, over the definitions alone. The contract says that the call answers what `eventOf` says;
 -- these say what that means, sentence by sentence of document 01. (The refusals are in `Answers`.)
 -- Assumes nothing.
-use Rattle.octets.specs.Prelude.{_≡_, refl, sym, ap, _∙_, List, _++_, true, false, false≢true, ℕ, _<_, arith, length}
+use Rattle.octets.specs.Prelude.{_≡_, refl, sym, ap, _∙_, List, _++_, true, false, false≢true, ℕ, _^_, _<_, arith, length}
 use Rattle.messages.specs.Wire.{typeIn, sizeIn, success}
 use Rattle.messages.specs.Requests.{ackStatus}
 use Rattle.messages.proofs.Theorems.{refused-keeps-settings, queues-stay}
@@ -28,6 +28,10 @@ reached-good s (fromEvent r page reached) = good-event r page (reached-good r re
 -- demand 1: every queue chosen is below the number of queues in operation
 pub every-queue-below : (s : HostState) (packet : List ℕ) → Reached s → queueIn (steeredBy (s .settings) packet) < s .settings .queues
 every-queue-below s packet reached = good-queue (s .settings) packet (reached-good s reached .settings)
+
+-- a count moves by the octets between what it was and what it is
+moved : (area : ℕ) (page : List ℕ) (c d : ℕ) → c < 2 ^ 32 → d < 2 ^ 32 → d ≡ advanced c (length (octetsIn area page c (less d c)))
+moved area page c d was is = omega (arith, octets-length area page c (less d c))
 
 module _ (s : HostState) (page : List ℕ) where
   -- with an ack owed nothing is read
@@ -78,18 +82,10 @@ module _ (s : HostState) (page : List ℕ) where
 
   -- the own counts: req_cons moves by exactly the octets read, and rsp_prod by the octets written
   pub req-cons-moves : Good s → eventOf s page .state .incoming .cons ≡ advanced (s .incoming .cons) (length (readBy s page))
-  req-cons-moves good =
-      let new = good-event s page good .incoming .count in
-      let moved = octets-length requestsAt page (s .incoming .cons)
-      (less (eventOf s page .state .incoming .cons) (s .incoming .cons)) in
-      omega (arith, good .incoming .count)
+  req-cons-moves good = moved requestsAt page _ _ (good .incoming .count) (good-event s page good .incoming .count)
 
   pub rsp-prod-moves : Good s → eventOf s page .state .outgoing .prod ≡ advanced (s .outgoing .prod) (length (writtenBy s page))
-  rsp-prod-moves good =
-      let new = good-event s page good .outgoing .count in
-      let moved = octets-length responsesAt (eventOf s page .page) (s .outgoing .prod)
-      (less (eventOf s page .state .outgoing .prod) (s .outgoing .prod)) in
-      omega (arith, good .outgoing .count)
+  rsp-prod-moves good = moved responsesAt (eventOf s page .page) _ _ (good .outgoing .count) (good-event s page good .outgoing .count)
 
   -- the octets are read by reading alone
   read-all : Accepted s page → owes s ≡ false → eventOf s page .state .incoming .cons ≡ afterReading s page .incoming .cons

@@ -1,11 +1,10 @@
 -- `backend::events::proceed` meets its contract: its test is that of `proceeded`, and what it calls does what the definitions say
 -- of each stage.
 -- Assumes nothing.
-use Rattle.octets.specs.Prelude.{_≡_, sym, ap, subst, _∙_, List, ℕ, _^_, _<_, needs, lt-ltb, le-ltb}
-use Rattle.messages.specs.Settings.{Good as GoodSettings}
-use Rattle.interface.specs.States.{HostState, Good, interfaceIn}
-use Rattle.interface.specs.Events.{readIn, carriedOver}
-use Rattle.backend.proofs.Goodness.{read-settings, read-counts, good-carried}
+use Rattle.octets.specs.Prelude.{_≡_, sym, subst, _∙_, List, ℕ, needs, lt-ltb, le-ltb}
+use Rattle.interface.specs.States.{HostState, interfaceIn}
+use Rattle.interface.specs.Events.{readIn}
+use Rattle.backend.proofs.Goodness.{Concludes, read-concludes}
 use Rattle.backend.proofs.Steps.{proceeds-owing, proceeds-idle}
 use Rattle.backend.proofs.events.proceed.Statement.{statement}
 use Rattle.backend.proofs.events.proceed.Tie as tie
@@ -46,26 +45,15 @@ module _ (d : tie.After-read-request) where
   has-read : read ≡ readIn (lent start) page n
   has-read = let a = start .args in d .read-request .ensures (a .ack .now) (a .key .now) (a .entries .now)
 
-  -- its settings are those before
-  settings-good : GoodSettings (read .settings)
-  settings-good =
-      let good = start .pre .0 in
-      let same = ap (λ (s : HostState). s .settings) has-read ∙ read-settings (lent start) page n good in
-      subst GoodSettings (sym same) (good .settings)
-
-  carries-good : Good (carriedOver read)
-  carries-good = subst (λ (s : HostState). Good (carriedOver s)) (sym has-read) (good-carried (lent start) page n (start .pre .0))
-
-  counts : (read .incoming .cons < 2 ^ 32) × (read .outgoing .prod < 2 ^ 32)
-  counts =
-      subst (λ (s : HostState). (s .incoming .cons < 2 ^ 32) × (s .outgoing .prod < 2 ^ 32)) (sym has-read)
-      (read-counts (lent start) page n (start .pre .0))
+  concludes : Concludes read
+  concludes = subst Concludes (sym has-read) (read-concludes (lent start) page n (start .pre .0))
 
 conclude-requires : tie.Need-conclude-requires
 conclude-requires c κs =
     let d = c .before .before .before .before .before .before .before in
     let s = start d in
-    (settings-good d, (carries-good d, (s .pre .1 .0, s .pre .1 .2, counts d .0, counts d .1)))
+    let x = concludes d in
+    (x .settings, (x .carried, (s .pre .1 .0, s .pre .1 .2, x .cons, x .prod)))
 
 returns-2 : tie.Need-returns-2
 returns-2 c =
