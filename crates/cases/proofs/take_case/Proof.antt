@@ -14,10 +14,7 @@ module _ (d : tie.After-case) where
   body : Within (length (start .args .cases .now)) (start .args .at) (Body (d .case .given .0 .0) (d .case .given .0 .1 .0))
   body = rw (d .case .given .1) at (d .before .before .case-at .ensures)
 
-returns : tie.Need-returns
-returns c = omega (arith, body (c .before .before))
-
 pub take-case-spec : {M : Type 1} → statement M
 take-case-spec =
-    tie.close (tie.spec (λ c κs. search needs) (λ c. search needs) (λ c. search needs) (λ c. search needs) (λ c κs. search needs) returns
+    tie.close (tie.spec (λ c κs. search needs) (λ c. search needs) (λ c. search needs) (λ c. search needs) (λ c κs. search needs) (λ c. omega (arith, body (c .before .before)))
     (λ c. search needs))

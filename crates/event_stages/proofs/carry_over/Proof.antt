@@ -35,18 +35,6 @@ module _ (d : tie.After-carry-out) where
   size-known : length (start lending .args .numbers .now) ≡ 8
   size-known = long lending
 
-slice-write-held-2 : tie.Need-slice-write-held-2
-slice-write-held-2 c = simp length-set (omega (arith, size-known (c .before .before)))
-
-slice-write-held-3 : tie.Need-slice-write-held-3
-slice-write-held-3 c = simp length-set (omega (arith, size-known (c .before .before)))
-
-slice-write-held-4 : tie.Need-slice-write-held-4
-slice-write-held-4 c = simp length-set (omega (arith, size-known (c .before .before)))
-
-slice-write-held-5 : tie.Need-slice-write-held-5
-slice-write-held-5 c = simp length-set (omega (arith, size-known (c .before .before)))
-
 returns : tie.Need-returns
 returns c =
     let d = c .before .before in
@@ -62,4 +50,4 @@ pub carry-over-spec : {M : Type 1} → statement M
 carry-over-spec =
     tie.close (tie.spec (λ c κs. search needs) (λ c κs. search needs) (λ c. search needs) (λ c. search needs) (λ c. search needs)
     (λ c. search needs) (λ c. search needs) cast-carry-out-3 (λ c κs. search needs) (λ c. search needs) (λ c. search needs)
-    (λ c. search needs) slice-write-held-2 slice-write-held-3 slice-write-held-4 slice-write-held-5 returns)
+    (λ c. search needs) (λ c. simp length-set (omega (arith, size-known (c .before .before)))) (λ c. simp length-set (omega (arith, size-known (c .before .before)))) (λ c. simp length-set (omega (arith, size-known (c .before .before)))) (λ c. simp length-set (omega (arith, size-known (c .before .before)))) returns)

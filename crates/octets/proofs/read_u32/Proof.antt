@@ -5,10 +5,7 @@ use Rattle.octets.proofs.Numbers.{number-four}
 use Rattle.octets.proofs.read_u32.Statement.{statement}
 use Rattle.octets.proofs.read_u32.Tie as tie
 
-returns : tie.Need-returns
-returns c = c .joined .ensures ∙ sym (number-four _ _)
-
 pub read-u32-spec : {M : Type 1} → statement M
 read-u32-spec =
     tie.close (tie.spec (λ c. search needs) (λ c. search needs) (λ c. search needs) (λ c. search needs) (λ c. search needs)
-    (λ c. search needs) (λ c. search needs) (λ c κs. search needs) returns)
+    (λ c. search needs) (λ c. search needs) (λ c κs. search needs) (λ c. c .joined .ensures ∙ sym (number-four _ _)))

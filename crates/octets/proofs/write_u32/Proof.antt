@@ -5,11 +5,8 @@ use Rattle.octets.proofs.Numbers.{stored-four}
 use Rattle.octets.proofs.write_u32.Statement.{statement}
 use Rattle.octets.proofs.write_u32.Tie as tie
 
-returns : tie.Need-returns
-returns c = stored-four _ _ _
-
 pub write-u32-spec : {M : Type 1} → statement M
 write-u32-spec =
     tie.close (tie.spec (λ c. search needs) (λ c. search needs) (λ c. search needs) (λ c. search needs) (λ c. simp length-set (omega arith))
     (λ c. search needs) (λ c. search needs) (λ c. simp length-set (omega arith)) (λ c. search needs) (λ c. search needs)
-    (λ c. simp length-set (omega arith)) (λ c. search needs) returns)
+    (λ c. simp length-set (omega arith)) (λ c. search needs) (λ c. stored-four _ _ _))

@@ -14,18 +14,6 @@ module _ (d : tie.After-found) where
   found : let ip = d .found .given .0 in Places (start .args .packet .now) (ip .0) (ip .1 .0) (ip .1 .1 .0) (ip .1 .1 .1 .0)
   found = places _ _ _ _ _ _ (d .before .before .look .ensures) (d .found .given .1)
 
-sub-steer-ip : tie.Need-sub-steer-ip
-sub-steer-ip c = let f = found (c .before) in omega arith
-
-part-steer-ip-start : tie.Need-part-steer-ip-start
-part-steer-ip-start c = let f = found (c .before) in omega arith
-
-part-steer-ip-end : tie.Need-part-steer-ip-end
-part-steer-ip-end c = let f = found (c .before) in omega arith
-
-sub-steer-ip-2 : tie.Need-sub-steer-ip-2
-sub-steer-ip-2 c = let f = found (c .before .before) in omega arith
-
 steer-ip-requires : tie.Need-steer-ip-requires
 steer-ip-requires c κs =
     let d = c .before .before in
@@ -42,5 +30,5 @@ returns-2 c = steered-part _ _ _ _ _ (found (c .before .before .before)) _ _ _ _
 
 pub steer-spec : {M : Type 1} → statement M
 steer-spec =
-    tie.close (tie.spec (λ c κs. search needs) (λ c. search needs) (λ c κs. search needs) (λ c. search needs) sub-steer-ip
-    part-steer-ip-start part-steer-ip-end sub-steer-ip-2 steer-ip-requires returns returns-2)
+    tie.close (tie.spec (λ c κs. search needs) (λ c. search needs) (λ c κs. search needs) (λ c. search needs) (λ c. let f = found (c .before) in omega arith)
+    (λ c. let f = found (c .before) in omega arith) (λ c. let f = found (c .before) in omega arith) (λ c. let f = found (c .before .before) in omega arith) steer-ip-requires returns returns-2)

@@ -5,8 +5,5 @@ use Rattle.text.proofs.Growth.{prints}
 use Rattle.text.proofs.hash_line.Statement.{statement}
 use Rattle.text.proofs.hash_line.Tie as tie
 
-returns : tie.Need-returns
-returns c = prints (c .before .empty .ensures) (c .with-hash .ensures .0)
-
 pub hash-line-spec : {M : Type 1} → statement M
-hash-line-spec = tie.close (tie.spec (λ c κs. search needs) (λ c κs. search needs) returns)
+hash-line-spec = tie.close (tie.spec (λ c κs. search needs) (λ c κs. search needs) (λ c. prints (c .before .empty .ensures) (c .with-hash .ensures .0)))

@@ -33,11 +33,8 @@ four-lines c =
     let none = (start-of c) .empty2 .ensures in
     prints none (adds-then ipv4 (adds-then ipv4-tcp (adds-then ipv6 ipv6-tcp)))
 
-returns-2 : tie.Need-returns-2
-returns-2 c = simp (eq-eqb _ _ (start-of c .before .if1 .left)) (four-lines c)
-
 pub two-way-text-spec : {M : Type 1} → statement M
 two-way-text-spec =
     tie.close (tie.spec (λ c κs. search needs) (λ c κs. search needs) returns (λ c κs. search needs) (λ c. search needs)
     (λ c κs. search needs) (λ c κs. search needs) (λ c. search needs) (λ c κs. search needs) (λ c κs. search needs) (λ c. search needs)
-    (λ c κs. search needs) (λ c κs. search needs) (λ c. search needs) (λ c κs. search needs) (λ c κs. search needs) returns-2)
+    (λ c κs. search needs) (λ c κs. search needs) (λ c. search needs) (λ c κs. search needs) (λ c κs. search needs) (λ c. simp (eq-eqb _ _ (start-of c .before .if1 .left)) (four-lines c)))

@@ -4,22 +4,10 @@ use Rattle.octets.specs.Prelude.{refl, needs}
 use Rattle.by_number.proofs.guest.tell_answer.Statement.{statement}
 use Rattle.by_number.proofs.guest.tell_answer.Tie as tie
 
-returns : tie.Need-returns
-returns c = rw (c .enum-told .given .1) (refl, (refl, refl))
-
-returns-2 : tie.Need-returns-2
-returns-2 c = rw (c .enum-told2 .given .1) (refl, (refl, refl))
-
-returns-3 : tie.Need-returns-3
-returns-3 c = rw (c .before .answer .given .1) (refl, (refl, refl))
-
-returns-4 : tie.Need-returns-4
-returns-4 c = rw (c .before .answer2 .given .1) (refl, (refl, refl))
-
 returns-5 : tie.Need-returns-5
 returns-5 c = rw (c .before .before .answer3 .given .1) (c .refusal-number .ensures, (refl, refl))
 
 pub tell-answer-spec : {M : Type 1} → statement M
 tell-answer-spec =
     tie.close (tie.spec (λ c. search needs) (λ c. search needs) (λ c. search needs) (λ c. search needs) (λ c. search needs)
-    (λ c. search needs) (λ c. search needs) (λ c. search needs) (λ c κs. search needs) returns returns-2 returns-3 returns-4 returns-5)
+    (λ c. search needs) (λ c. search needs) (λ c. search needs) (λ c κs. search needs) (λ c. rw (c .enum-told .given .1) (refl, (refl, refl))) (λ c. rw (c .enum-told2 .given .1) (refl, (refl, refl))) (λ c. rw (c .before .answer .given .1) (refl, (refl, refl))) (λ c. rw (c .before .answer2 .given .1) (refl, (refl, refl))) returns-5)

@@ -23,14 +23,5 @@ module _ (d : tie.After-hash) (a : HashAnswer) (e : d .hash .result ≡ a) where
       let same : hashOutcomeOf a ≡ outcome = ap hashOutcomeOf (sym e) ∙ d .hash .ensures in
       (ap numberOf same, ap (λ (o : Outcome ℕ). placed itself o before) same)
 
-returns : tie.Need-returns
-returns c = told (c .before .before .before) _ (c .before .answer .given .1)
-
-returns-2 : tie.Need-returns-2
-returns-2 c = told (c .before .before) _ (c .enum-told .given .1)
-
-returns-3 : tie.Need-returns-3
-returns-3 c = told (c .before .before) _ (c .enum-told2 .given .1)
-
 pub hash-spec : {M : Type 1} → statement M
-hash-spec = tie.close (tie.spec (λ c κs. search needs) (λ c. search needs) (λ c. search needs) (λ c. search needs) returns returns-2 returns-3)
+hash-spec = tie.close (tie.spec (λ c κs. search needs) (λ c. search needs) (λ c. search needs) (λ c. search needs) (λ c. told (c .before .before .before) _ (c .before .answer .given .1)) (λ c. told (c .before .before) _ (c .enum-told .given .1)) (λ c. told (c .before .before) _ (c .enum-told2 .given .1)))

@@ -28,19 +28,7 @@ module _ (d : tie.After-two-way) (a : TwoWayAnswer) (e : d .two-way .result ≡ 
       let same : twoWayOutcomeOf a ≡ outcome = ap twoWayOutcomeOf (sym e) ∙ d .two-way .ensures in
       (ap numberOf same, (ap (λ (o : Outcome Verdict). placed meets o meet) same, ap (λ (o : Outcome Verdict). placed bitTold o bit) same))
 
-returns : tie.Need-returns
-returns c = told (c .before .before) _ (c .enum-told .given .1)
-
-returns-2 : tie.Need-returns-2
-returns-2 c = told (c .before .before .before) _ (c .before .answer .given .1)
-
-returns-3 : tie.Need-returns-3
-returns-3 c = told (c .before .before) _ (c .enum-told2 .given .1)
-
-returns-4 : tie.Need-returns-4
-returns-4 c = told (c .before .before) _ (c .enum-told3 .given .1)
-
 pub two-way-spec : {M : Type 1} → statement M
 two-way-spec =
-    tie.close (tie.spec (λ c κs. search needs) (λ c. search needs) (λ c. search needs) (λ c. search needs) (λ c. search needs) returns
-    returns-2 returns-3 returns-4)
+    tie.close (tie.spec (λ c κs. search needs) (λ c. search needs) (λ c. search needs) (λ c. search needs) (λ c. search needs) (λ c. told (c .before .before) _ (c .enum-told .given .1))
+    (λ c. told (c .before .before .before) _ (c .before .answer .given .1)) (λ c. told (c .before .before) _ (c .enum-told2 .given .1)) (λ c. told (c .before .before) _ (c .enum-told3 .given .1)))

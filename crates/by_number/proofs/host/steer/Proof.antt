@@ -31,14 +31,8 @@ module _ (d : tie.After-steer) (a : Steered) (e : d .steer .result ≡ a) where
       let same : choiceOf a ≡ choice = ap choiceOf (sym e) ∙ d .steer .ensures in
       rw (← same) (record { number = refl; hash-type = refl; hash = refl; in-queue = refl })
 
-returns : tie.Need-returns
-returns c = told (c .before .before .before) _ (c .before .answer .given .1)
-
-returns-2 : tie.Need-returns-2
-returns-2 c = told (c .before .before .before) _ (c .before .answer2 .given .1)
-
 pub steer-spec : {M : Type 1} → statement M
 steer-spec =
     tie.close (tie.spec (λ c. search needs) (λ c. search needs) (λ c. search needs) cast-steer-2
     (λ c κs. c .before .before .before .pre .mapping .listed) (λ c. search needs) (λ c. search needs) (λ c. search needs)
-    (λ c. search needs) (λ c. search needs) returns returns-2)
+    (λ c. search needs) (λ c. search needs) (λ c. told (c .before .before .before) _ (c .before .answer .given .1)) (λ c. told (c .before .before .before) _ (c .before .answer2 .given .1)))

@@ -28,16 +28,7 @@ module _ (d : tie.After-read-ack) (a : AckAnswer) (e : d .read-ack .result ≡ a
       let same : ackOutcomeOf a ≡ outcome = ap ackOutcomeOf (sym e) ∙ d .read-ack .ensures in
       (ap numberOf same, (ap (λ (o : Outcome Reading). placed statusTold o status) same, ap (λ (o : Outcome Reading). placed flagsTold o flags) same))
 
-returns : tie.Need-returns
-returns c = told (c .before .before .before) _ (c .before .answer .given .1)
-
-returns-2 : tie.Need-returns-2
-returns-2 c = told (c .before .before .before) _ (c .before .answer2 .given .1)
-
-returns-3 : tie.Need-returns-3
-returns-3 c = told (c .before .before) _ (c .enum-told .given .1)
-
 pub read-ack-spec : {M : Type 1} → statement M
 read-ack-spec =
     tie.close (tie.spec (λ c κs. search needs) (λ c. search needs) (λ c. search needs) (λ c. search needs) (λ c. search needs)
-    (λ c. search needs) (λ c. search needs) returns returns-2 returns-3)
+    (λ c. search needs) (λ c. search needs) (λ c. told (c .before .before .before) _ (c .before .answer .given .1)) (λ c. told (c .before .before .before) _ (c .before .answer2 .given .1)) (λ c. told (c .before .before) _ (c .enum-told .given .1)))

@@ -43,9 +43,6 @@ read-payload-requires c κs =
     (read .0) (read .1) (s .pre .2) in
     ((s .pre .0, header-kept d), (omega arith, within))
 
-cast-result : tie.Need-cast-result
-cast-result c = let m = moved (c .before .before) in omega arith
-
 returns : tie.Need-returns
 returns c =
     let d = c .before .before in
@@ -64,4 +61,4 @@ returns c =
 pub receive-spec : {M : Type 1} → statement M
 receive-spec =
     tie.close (tie.spec (λ c κs. search needs) (λ c. search needs) (λ c. search needs) (λ c κs. search needs) (λ c. search needs)
-    read-payload-requires (λ c. search needs) cast-result (λ c. search needs) returns)
+    read-payload-requires (λ c. search needs) (λ c. let m = moved (c .before .before) in omega arith) (λ c. search needs) returns)

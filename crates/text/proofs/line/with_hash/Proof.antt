@@ -12,13 +12,7 @@ returns c =
     rw (c .before .before .before .before .answer .given .1)
     (adds-then (digits .0) end, omega (arith, digits .1, end .longer))
 
-returns-2 : tie.Need-returns-2
-returns-2 c = rw (c .before .enum-told .given .1) (c .with-refusal .ensures)
-
-returns-3 : tie.Need-returns-3
-returns-3 c = rw (c .before .enum-told2 .given .1) (c .with-refusal2 .ensures)
-
 pub with-hash-spec : {M : Type 1} → statement M
 with-hash-spec =
     tie.close (tie.spec (λ c. search needs) (λ c κs. search needs) (λ c. search needs) (λ c κs. search needs) (λ c. search needs)
-    (λ c κs. search needs) (λ c. search needs) (λ c κs. search needs) returns returns-2 returns-3)
+    (λ c κs. search needs) (λ c. search needs) (λ c κs. search needs) returns (λ c. rw (c .before .enum-told .given .1) (c .with-refusal .ensures)) (λ c. rw (c .before .enum-told2 .given .1) (c .with-refusal2 .ensures)))

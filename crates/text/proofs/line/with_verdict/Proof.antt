@@ -12,14 +12,8 @@ returns c =
 returns-2 : tie.Need-returns-2
 returns-2 c = rw (c .before .before .before .answer .given .1) (c .with-number .ensures)
 
-returns-3 : tie.Need-returns-3
-returns-3 c = rw (c .before .enum-told2 .given .1) (c .with-refusal .ensures)
-
-returns-4 : tie.Need-returns-4
-returns-4 c = rw (c .before .enum-told3 .given .1) (c .with-refusal2 .ensures)
-
 pub with-verdict-spec : {M : Type 1} → statement M
 with-verdict-spec =
     tie.close (tie.spec (λ c. search needs) (λ c. search needs) (λ c κs. search needs) (λ c. search needs) (λ c. search needs)
-    (λ c κs. search needs) (λ c. search needs) (λ c κs. search needs) (λ c. search needs) (λ c κs. search needs) returns returns-2 returns-3
-    returns-4)
+    (λ c κs. search needs) (λ c. search needs) (λ c κs. search needs) (λ c. search needs) (λ c κs. search needs) returns returns-2 (λ c. rw (c .before .enum-told2 .given .1) (c .with-refusal .ensures))
+    (λ c. rw (c .before .enum-told3 .given .1) (c .with-refusal2 .ensures)))

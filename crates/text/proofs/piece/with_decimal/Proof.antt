@@ -15,9 +15,6 @@ module _ (d : tie.After-decimal) where
   few : d .decimal .result ≤ 20
   few = fewest-most 10 1 n (d .decimal .result) 20 (omega arith) (omega arith) (search needs) (d .decimal .ensures .1 .0)
 
-with-octets-requires : tie.Need-with-octets-requires
-with-octets-requires c κs = omega (arith, few (c .before), c .before .decimal .ensures .0 .1)
-
 returns : tie.Need-returns
 unfolding decimal
 returns c =
@@ -27,4 +24,4 @@ returns c =
     adds-first 20 (made .result) _ text (made .ensures .0 .1) (few d) (c .with-octets .ensures)
 
 pub with-decimal-spec : {M : Type 1} → statement M
-with-decimal-spec = tie.close (tie.spec (λ c κs. search needs) (λ c. search needs) (λ c. search needs) with-octets-requires returns)
+with-decimal-spec = tie.close (tie.spec (λ c κs. search needs) (λ c. search needs) (λ c. search needs) (λ c κs. omega (arith, few (c .before), c .before .decimal .ensures .0 .1)) returns)

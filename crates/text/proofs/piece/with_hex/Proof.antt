@@ -20,9 +20,6 @@ module _ (d : tie.After-hex) where
         fewest-most 16 8 n (d .hex .result) 8 (omega arith) (omega arith) (search needs) (d .hex .ensures .1 .0),
       )
 
-with-octets-requires : tie.Need-with-octets-requires
-with-octets-requires c κs = omega (arith, eight (c .before), c .before .hex .ensures .0 .1)
-
 returns : tie.Need-returns
 unfolding hex8
 returns c =
@@ -32,4 +29,4 @@ returns c =
     adds-first 8 (made .result) _ text (made .ensures .0 .1) (omega (arith, eight d)) (c .with-octets .ensures)
 
 pub with-hex-spec : {M : Type 1} → statement M
-with-hex-spec = tie.close (tie.spec (λ c κs. search needs) (λ c. search needs) (λ c. search needs) with-octets-requires returns)
+with-hex-spec = tie.close (tie.spec (λ c κs. search needs) (λ c. search needs) (λ c. search needs) (λ c κs. omega (arith, eight (c .before), c .before .hex .ensures .0 .1)) returns)

@@ -5,8 +5,5 @@ use Rattle.text.proofs.Growth.{adds-octet}
 use Rattle.text.proofs.piece.with_octet.Statement.{statement}
 use Rattle.text.proofs.piece.with_octet.Tie as tie
 
-returns : tie.Need-returns
-returns c = adds-octet (c .args .t1) (c .args .b) (search needs)
-
 pub with-octet-spec : {M : Type 1} → statement M
-with-octet-spec = tie.close (tie.spec (λ c. search needs) (λ c. search needs) returns)
+with-octet-spec = tie.close (tie.spec (λ c. search needs) (λ c. search needs) (λ c. adds-octet (c .args .t1) (c .args .b) (search needs)))
