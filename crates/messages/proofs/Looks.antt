@@ -1,7 +1,7 @@
 -- What of a payload a request looks at: the octets that its header counts, and none where it counts more than are kept.
 -- Assumes nothing.
-use Rattle.octets.specs.Prelude.{_≡_, refl, sym, ap, _∙_, List, Bool, true, false, cond, ℕ, _+_, _*_, _/_, _%_, _≤_, _<_, arith}
-use Rattle.octets.specs.Prelude.{length, getD, take, getD-take, eqb, leb, eqb-true, leb-true}
+use Rattle.octets.specs.Prelude.{_≡_, refl, sym, ap, _∙_, List, cond, ℕ, _+_, _*_, _/_, _%_, _≤_, _<_, arith}
+use Rattle.octets.specs.Prelude.{getD, take, getD-take, eqb, leb, eqb-true, leb-true}
 use lib.Seq.{ext-getD}
 use Rattle.octets.specs.Numbers.{numberAt}
 use Rattle.octets.proofs.Numbers.{number-same}
