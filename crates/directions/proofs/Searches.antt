@@ -1,7 +1,6 @@
 -- What the two searches of `two_way` say of the verdict.
 -- Assumes nothing.
 use Rattle.octets.specs.Prelude.{_≡_, sym, ap, _∙_, List, ℕ, _+_, _*_, _-_, _≤_, _<_, decLt, arith}
-use mathlib.Core.Path.{subst₂, subst₃}
 use Rattle.toeplitz.specs.Hash.{windowAt}
 use Rattle.toeplitz.specs.TwoWay.{inputSize, addressSize, portSize, tellsApart, agree, differAt, verdict}
 use Rattle.directions.specs.Inner.{FoundIn}
@@ -85,10 +84,3 @@ module _ (key : List ℕ) (t : ℕ) where
   nowhere s u =
       same-agree key t
       (λ k l. elim (decLt k (a * 8 + a * 8)) [ yes m ↦ addresses-same s k m | no n ↦ ports-same u k (omega arith) l ])
-
-  -- what a search says, of the sizes that the type has and the case that was found
-  pub first-search : {x : ℕ} {r r′ : Found} → x ≡ a → r ≡ r′ → InAddresses key x r → InAddresses key a r′
-  first-search e q f = subst₂ (InAddresses key) e q f
-
-  pub second-search : {x y : ℕ} {r r′ : Found} → x ≡ a → y ≡ p → r ≡ r′ → InPorts key x y r → InPorts key a p r′
-  second-search e g q f = subst₃ (InPorts key) e g q f

@@ -1,13 +1,13 @@
 -- Which messages the reader accepts, and what it answers then.
 -- Assumes nothing.
-use Rattle.octets.specs.Prelude.{_≡_, refl, sym, ap, _∙_, _↔_, List, Bool, true, false, cond, false≢true, ℕ, _+_, _-_, _≤_, _<_}
+use Rattle.octets.specs.Prelude.{_≡_, refl, sym, ap, _∙_, _↔_, List, Bool, true, false, false≢true, ℕ, _+_, _-_, _≤_, _<_}
 use Rattle.octets.specs.Prelude.{arith, length, eqb, leb, eq-eqb, eqb-true, le-leb, lt-leb, leb-true}
-use Rattle.octets.specs.Outcome.{value, refused}
-use Rattle.octets.proofs.Truth.{both-true}
+use Rattle.octets.specs.Outcome.{Outcome, value, refused}
+use Rattle.octets.proofs.Truth.{both-true, by-test}
 use Rattle.messages.specs.Wire.{headerSize, fieldSize, typeIn, sizeIn, statusIn, ackFlagsIn, ackType, getFlagsType, setMappingType}
 use Rattle.messages.specs.Wire.{success, notSupported, bufferOverflow, allFlags}
 use Rattle.messages.specs.Requests.{Request, getFlags, setFlags, setKey, setMapping, none, requestOf, carriesFlags}
-use Rattle.messages.proofs.Types.{request-cases}
+use Rattle.messages.proofs.Types.{request-cases, no-flags}
 use Rattle.messages.proofs.AckOctets.{flags-success}
 use Rattle.guest_messages.specs.Refusals.{notAnAck}
 use Rattle.guest_messages.specs.Reader.{status, statusAndFlags, statusAllowed, ackSize, flagsAllowed, isAckTo, readingOf, readAck}
@@ -22,28 +22,14 @@ pub record Acks (r : Request) (m : List ℕ) : Type 0 where
 
 pub acks-exactly : (r : Request) (m : List ℕ) → (isAckTo r m ≡ true) ↔ Acks r m
 unfolding isAckTo
-acks-exactly r m = (to, from)
-  where
-    to : isAckTo r m ≡ true → Acks r m
-    to e =
-        let a = both-true (eqb (length m) (headerSize + sizeIn m)) _ .0 e in
-        let b = both-true (eqb (typeIn m) ackType) _ .0 (a .1) in
-        let c = both-true (statusAllowed r (statusIn m)) _ .0 (b .1) in
-        let d = both-true (eqb (sizeIn m) (ackSize r (statusIn m))) _ .0 (c .1) in
-        record { long = eqb-true _ _ (a .0); ack = eqb-true _ _ (b .0); allowed = c .0; size = eqb-true _ _ (d .0); flags = d .1 }
-
-    from : Acks r m → isAckTo r m ≡ true
-    from x =
-        both-true (eqb (length m) (headerSize + sizeIn m)) _ .1 (
-          eq-eqb _ _ (x .long),
-          both-true (eqb (typeIn m) ackType) _ .1 (
-            eq-eqb _ _ (x .ack),
-            both-true (statusAllowed r (statusIn m)) _ .1 (
-              x .allowed,
-              both-true (eqb (sizeIn m) (ackSize r (statusIn m))) _ .1 (eq-eqb _ _ (x .size), x .flags),
-            ),
-          ),
-        )
+acks-exactly r m = (
+  λ e. let a = both-true (eqb (length m) (headerSize + sizeIn m)) _ .0 e in
+      let b = both-true (eqb (typeIn m) ackType) _ .0 (a .1) in
+      let c = both-true (statusAllowed r (statusIn m)) _ .0 (b .1) in
+      let d = both-true (eqb (sizeIn m) (ackSize r (statusIn m))) _ .0 (c .1) in
+      record { long = eqb-true _ _ (a .0); ack = eqb-true _ _ (b .0); allowed = c .0; size = eqb-true _ _ (d .0); flags = d .1 },
+  λ x. rw (eq-eqb _ _ (x .long), eq-eqb _ _ (x .ack), x .allowed, eq-eqb _ _ (x .size)) (x .flags),
+)
 
 read-accepted : (t : ℕ) (m : List ℕ) → Acks (requestOf t) m → value (readingOf (requestOf t) m) ≡ readAck t m
 unfolding readAck
@@ -51,18 +37,9 @@ read-accepted t m x = rw (acks-exactly (requestOf t) m .1 x) refl
 
 read-refused : (t : ℕ) (m : List ℕ) → (Acks (requestOf t) m → ⊥) → refused notAnAck ≡ readAck t m
 unfolding readAck
-read-refused t m h = by (isAckTo (requestOf t) m) refl
-  where
-    by : (b : Bool) → isAckTo (requestOf t) m ≡ b → refused notAnAck ≡ cond b (value (readingOf (requestOf t) m)) (refused notAnAck)
-    by true e = absurd (h (acks-exactly (requestOf t) m .0 e))
-    by false e = refl
-
-size-least : (r : Request) (st : ℕ) → fieldSize ≤ ackSize r st
-size-least r st = by (carriesFlags r st)
-  where
-    by : (b : Bool) → fieldSize ≤ cond b (fieldSize + fieldSize) fieldSize
-    by true = omega arith
-    by false = omega arith
+read-refused t m h =
+    by-test (λ (x : Outcome _). refused notAnAck ≡ x) (isAckTo (requestOf t) m) _ _
+    (λ e. absurd (h (acks-exactly (requestOf t) m .0 e))) (λ e. refl)
 
 pub allowed-most : (r : Request) (st : ℕ) → statusAllowed r st ≡ true → st ≤ bufferOverflow
 unfolding statusAllowed
@@ -70,9 +47,7 @@ allowed-most getFlags st e = leb-true _ _ e
 allowed-most setFlags st e = leb-true _ _ e
 allowed-most setKey st e = leb-true _ _ e
 allowed-most setMapping st e = leb-true _ _ e
-allowed-most none st e =
-    let one : st ≡ notSupported = eqb-true _ _ e in
-    omega arith
+allowed-most none st e = omega (arith, eqb-true st notSupported e)
 
 -- what the header and the status tell, from what was read
 pub long-told : (n : ℕ) (m : List ℕ) → headerSize + fieldSize ≤ length m → length m - headerSize ≡ n → n ≡ sizeIn m → length m ≡ headerSize + sizeIn m
@@ -85,28 +60,21 @@ flags-told t st b x m s e h = rw (← s) (sym e ∙ h)
 -- what the reader answers, by what it finds in turn
 module _ (t : ℕ) (m : List ℕ) where
   pub refuse-short : length m < headerSize + fieldSize → refused notAnAck ≡ readAck t m
-  refuse-short h = read-refused t m not
-    where
-      not : Acks (requestOf t) m → ⊥
-      not x =
-          let long = x .long in
-          let size = x .size in
-          let least = size-least (requestOf t) (statusIn m) in
-          omega arith
+  refuse-short h =
+      let least : fieldSize ≤ ackSize (requestOf t) (statusIn m) =
+      by-test (λ (n : ℕ). fieldSize ≤ n) (carriesFlags (requestOf t) (statusIn m)) _ _ (λ e. omega arith) (λ e. omega arith) in
+      read-refused t m (λ x. omega (arith, x .long, x .size))
 
   pub refuse-type : (typeIn m ≡ ackType → ⊥) → refused notAnAck ≡ readAck t m
   refuse-type h = read-refused t m (λ x. h (x .ack))
 
   pub refuse-length : (length m - headerSize ≡ sizeIn m → ⊥) → refused notAnAck ≡ readAck t m
-  refuse-length h = read-refused t m (λ x. h (let long = x .long in omega arith))
+  refuse-length h = read-refused t m (λ x. h (omega (arith, x .long)))
 
   -- an ack with flags
   module _ (carries : carriesFlags (requestOf t) (statusIn m) ≡ true) where
-    with-flags-size : ackSize (requestOf t) (statusIn m) ≡ fieldSize + fieldSize
-    with-flags-size = rw carries refl
-
     pub refuse-flags-size : (sizeIn m ≡ fieldSize + fieldSize → ⊥) → refused notAnAck ≡ readAck t m
-    refuse-flags-size h = read-refused t m (λ x. h (x .size ∙ with-flags-size))
+    refuse-flags-size h = read-refused t m (λ x. h (rw carries at (x .size)))
 
     pub refuse-flags : allFlags < ackFlagsIn m → refused notAnAck ≡ readAck t m
     refuse-flags h = read-refused t m (λ x. false≢true (sym (lt-leb _ _ h) ∙ rw carries at (x .flags)))
@@ -118,16 +86,13 @@ module _ (t : ℕ) (m : List ℕ) where
         let got = flags-success (requestOf t) (statusIn m) carries in
         let allowed : statusAllowed (requestOf t) (statusIn m) ≡ true = rw (got .0, got .1) refl in
         let x : Acks (requestOf t) m =
-        record { long = long; ack = type; allowed = allowed; size = size ∙ sym with-flags-size; flags = rw carries (le-leb _ _ flags) } in
+        record { long = long; ack = type; allowed = allowed; size = rw carries size; flags = rw carries (le-leb _ _ flags) } in
         ap (λ (st : ℕ). value (statusAndFlags st (ackFlagsIn m))) (sym (got .1)) ∙ rw carries at (read-accepted t m x)
 
   -- an ack with a status alone
   module _ (carries : carriesFlags (requestOf t) (statusIn m) ≡ false) where
-    status-size : ackSize (requestOf t) (statusIn m) ≡ fieldSize
-    status-size = rw carries refl
-
     pub refuse-size : (sizeIn m ≡ fieldSize → ⊥) → refused notAnAck ≡ readAck t m
-    refuse-size h = read-refused t m (λ x. h (x .size ∙ status-size))
+    refuse-size h = read-refused t m (λ x. h (rw carries at (x .size)))
 
     pub refuse-status : statusAllowed (requestOf t) (statusIn m) ≡ false → refused notAnAck ≡ readAck t m
     refuse-status h = read-refused t m (λ x. false≢true (sym h ∙ x .allowed))
@@ -136,7 +101,7 @@ module _ (t : ℕ) (m : List ℕ) where
         → value (status (statusIn m)) ≡ readAck t m
     accept-status long type size allowed =
         let x : Acks (requestOf t) m =
-        record { long = long; ack = type; allowed = allowed; size = size ∙ sym status-size; flags = rw carries refl } in
+        record { long = long; ack = type; allowed = allowed; size = rw carries size; flags = rw carries refl } in
         rw carries at (read-accepted t m x)
 
 -- by the number of the type
@@ -146,8 +111,7 @@ module _ (t st : ℕ) where
   get-flags-carries e = rw e refl
 
   pub other-carries-none : (t ≡ getFlagsType → ⊥) → carriesFlags (requestOf t) st ≡ false
-  other-carries-none h =
-      request-cases (λ (r : Request). carriesFlags r st ≡ false) t (λ e. absurd (h e)) (λ e. refl) (λ e. refl) (λ e. refl) (λ a b c d. refl)
+  other-carries-none = no-flags t st
 
   pub request-allowed : getFlagsType ≤ t → t ≤ setMappingType → statusAllowed (requestOf t) st ≡ leb st bufferOverflow
   unfolding statusAllowed

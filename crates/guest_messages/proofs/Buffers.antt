@@ -53,21 +53,16 @@ module _ (t n : ℕ) (p b : List ℕ) (size : n ≡ length p) where
 
   -- a payload of n octets is put behind the header, and the octets behind it are as they were
   module _ (b₁ : List ℕ) (put : b₁ ≡ header t n ++ drop headerSize b) where
-    payload-put : take headerSize b₁ ++ (p ++ drop n (drop headerSize b₁)) ≡ message t p ++ drop (headerSize + n) b
-    payload-put =
-        let long = length-header t n in
-        ap₂ (λ (x y : List ℕ). x ++ (p ++ y)) (front (header t n) b b₁ headerSize put long)
-        (drop-drop n headerSize b₁ ∙ rest (header t n) b b₁ headerSize put long n)
-        ∙ sym (append-assoc (header t n) p (drop (headerSize + n) b))
-        ∙ ap (λ (x : List ℕ). x ++ drop (headerSize + n) b) (ap (λ (k : ℕ). header t k ++ p) size ∙ sym (message-is t p))
-
     pub message-written : headerSize + n ≤ length b
         → record { answer = value (headerSize + n); buffer = take headerSize b₁ ++ (p ++ drop n (drop headerSize b₁)) }
         ≡ written (value (message t p)) b
     message-written room =
-        ap₂ (λ (k : ℕ) (x : List ℕ). record { answer = value k; buffer = x }) (sym whole)
-        (payload-put ∙ ap (λ (k : ℕ). message t p ++ drop k b) (sym whole))
-        ∙ written-whole (message t p) b (rw whole room)
+        let h = header t n in
+        let long = length-header t n in
+        let same : h ++ p ≡ message t p = ap (λ (k : ℕ). header t k ++ p) size ∙ sym (message-is t p) in
+        let ends = drop (headerSize + n) b in
+        rw (front h b b₁ headerSize put long, drop-drop n headerSize b₁, rest h b b₁ headerSize put long n)
+        (rw (← append-assoc h p ends, same, ← whole) (written-whole (message t p) b (rw whole room)))
 
 -- a message of a header alone
 pub header-written : (t : ℕ) (b b₁ : List ℕ) → b₁ ≡ header t 0 ++ drop headerSize b → headerSize ≤ length b
@@ -89,9 +84,7 @@ length-fields (x ∷ xs) = length-append (octetsOf fieldSize x) (fieldsOf xs) �
 fields-snoc : (xs : List ℕ) (x : ℕ) → fieldsOf (xs ++ (x ∷ [])) ≡ fieldsOf xs ++ octetsOf fieldSize x
 unfolding fieldsOf
 fields-snoc [] x = append-nil (octetsOf fieldSize x)
-fields-snoc (y ∷ xs) x =
-    ap (λ (t : List ℕ). octetsOf fieldSize y ++ t) (fields-snoc xs x)
-    ∙ sym (append-assoc (octetsOf fieldSize y) (fieldsOf xs) (octetsOf fieldSize x))
+fields-snoc (y ∷ xs) x = rw (fields-snoc xs x, append-assoc) refl
 
 -- one field more
 pub fields-next : (xs b b′ : List ℕ) (k : ℕ) → k < length xs → length b′ ≡ length xs * fieldSize → b′ ≡ fieldsOf (take k xs) ++ drop (k * fieldSize) b

@@ -1,9 +1,10 @@
 -- What the writer writes, the host judges by its content: each request's message carried out.
 -- Assumes nothing.
-use Rattle.octets.specs.Prelude.{_≡_, refl, sym, ap, _∙_, List, [], _++_, Bool, true, false, cond, ℕ, _*_, _/_, _%_, _^_, _≤_}
+use Rattle.octets.specs.Prelude.{_≡_, refl, sym, ap, _∙_, List, [], _++_, true, cond, ℕ, _*_, _/_, _%_, _^_, _≤_}
 use Rattle.octets.specs.Prelude.{arith, length, take-at}
 use Rattle.octets.specs.Numbers.{numberAt, octetsOf}
 use Rattle.octets.proofs.Numbers.{length-octets, number-octets}
+use Rattle.octets.proofs.Truth.{by-test}
 use Rattle.toeplitz.specs.Hash.{keyLength}
 use Rattle.messages.specs.Wire.{fieldSize, message, getFlagsType, setFlagsType, setKeyType, setMappingType, success, invalidParameter, allFlags}
 use Rattle.messages.specs.Settings.{maxEntries, isPowerOfTwo, isListed, EachBelow, mappingOf}
@@ -44,48 +45,20 @@ module _ (s : Settings) (rest : List ℕ) where
       (set-key-done (s .queues) (length key) (key ++ rest) long))
 
 module _ (s : Settings) (es rest : List ℕ) (small : EachBelow (256 ^ fieldSize) es) (listed : isListed (length es) ≡ true) where
-  -- the message's size and kept payload, and what the host finds in them
-  unfoldable size : ℕ
-  size = length es * fieldSize
-
-  unfoldable p : List ℕ
-  p = fieldsOf es ++ rest
-
-  count : size / fieldSize ≡ length es
-  unfolding size
-  count = omega arith
-
-  multiple : size % fieldSize ≡ 0
-  unfolding size
-  multiple = omega arith
-
-  power : isPowerOfTwo (size / fieldSize) ≡ true
-  power = rw count (listed-parts (length es) .0 listed .0)
-
-  few : size / fieldSize ≤ maxEntries
-  few = rw count (listed-parts (length es) .0 listed .1)
-
-  read : entriesIn (size / fieldSize) p ≡ es
-  unfolding p
-  read = rw count (fields-entries es rest small)
-
-  below : (t : Bool) → allBelow (s .queues) es ≡ t → allBelow (s .queues) (entriesIn (size / fieldSize) p) ≡ t
-  below t a = rw read a
-
-  judged : (t : Bool) → allBelow (s .queues) es ≡ t
-      → carriedBy setMapping s size p ≡ cond t (answered (withMapping s (mappingOf es)) success) (answered s invalidParameter)
-  judged true a =
-      sym
-      (mapping-set s size p (mappingOf es) (ap mappingOf (sym read))
-      (set-mapping-done (s .queues) size p multiple power few (below true a)))
-  judged false a = sym (carried-refused setMapping s size p 1 (set-mapping-entry (s .queues) size p multiple power few (below false a)))
-
   pub set-mapping-carried : carriedMessage s (message setMappingType (fieldsOf es)) rest
       ≡ cond (allBelow (s .queues) es) (answered (withMapping s (mappingOf es)) success) (answered s invalidParameter)
-  unfolding requestOf size p
+  unfolding requestOf
   set-mapping-carried =
-      let long : length (fieldsOf es) ≡ length es * fieldSize = length-fields es in
-      let most = listed-parts (length es) .0 listed .1 in
-      carried-message s setMappingType (fieldsOf es) rest (omega arith) (rw long (omega arith))
-      ∙ ap (λ (n : ℕ). carriedBy setMapping s n (fieldsOf es ++ rest)) long
-      ∙ judged (allBelow (s .queues) es) refl
+      let n = length (fieldsOf es) in
+      let p = fieldsOf es ++ rest in
+      let long : n ≡ length es * fieldSize = length-fields es in
+      let parts = listed-parts (length es) .0 listed in
+      let count : n / fieldSize ≡ length es = omega arith in
+      let multiple : n % fieldSize ≡ 0 = omega arith in
+      let power : isPowerOfTwo (n / fieldSize) ≡ true = rw count (parts .0) in
+      let few : n / fieldSize ≤ maxEntries = rw count (parts .1) in
+      let read : entriesIn (n / fieldSize) p ≡ es = rw count (fields-entries es rest small) in
+      carried-message s setMappingType (fieldsOf es) rest (omega arith) (omega arith)
+      ∙ by-test (λ x. carriedBy setMapping s n p ≡ x) (allBelow (s .queues) es) _ _
+      (λ a. sym (mapping-set s n p (mappingOf es) (ap mappingOf (sym read)) (set-mapping-done _ _ _ multiple power few (rw read a))))
+      (λ a. sym (carried-refused setMapping s n p 1 (set-mapping-entry _ _ _ multiple power few (rw read a))))

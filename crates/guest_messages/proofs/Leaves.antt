@@ -1,7 +1,7 @@
 -- What a call of the writer leaves, by its answer; and when it refuses.
 -- Assumes nothing.
 use Rattle.octets.specs.Prelude.{_≡_, refl, sym, ap, _∙_, _↔_, List, Bool, true, false, cond, false≢true, ℕ, _≤_, _<_, length}
-use Rattle.octets.specs.Prelude.{take, drop, take-append-seam, leb, leb-true, leb-false}
+use Rattle.octets.specs.Prelude.{take, drop, take-append-seam, decLt, arith}
 use lib.Seq.{drop-append-seam}
 use Rattle.octets.specs.Outcome.{Outcome, value, refused}
 use Rattle.octets.proofs.Outcomes.{value-same, refused-same, value-not-refused}
@@ -18,11 +18,7 @@ module _ (m b : List ℕ) where
   answer-short h = sym (ap (λ (x : After). x .answer) (written-short m b h))
 
   by-room : {P : Type 0} → (length m ≤ length b → P) → (length b < length m → P) → P
-  by-room {P} fits short = by (leb (length m) (length b)) refl
-    where
-      by : (t : Bool) → leb (length m) (length b) ≡ t → P
-      by true h = fits (leb-true _ _ h)
-      by false h = short (leb-false _ _ h)
+  by-room fits short = elim (decLt (length b) (length m)) [ yes h ↦ short h | no n ↦ fits (omega arith) ]
 
   pub message-refused : (k : ℕ) → written (value m) b .answer ≡ refused k → (k ≡ bufferTooShort) × (length b < length m)
   message-refused k e =
@@ -32,13 +28,12 @@ module _ (m b : List ℕ) where
   -- a message that is written stands at the start, and the octets behind it stay
   pub message-left : (n : ℕ) → written (value m) b .answer ≡ value n
       → (n ≡ length m) × (take n (written (value m) b .buffer) ≡ m) × (drop n (written (value m) b .buffer) ≡ drop n b)
-  message-left n e = by-room whole (λ h. absurd (value-not-refused n bufferTooShort (sym e ∙ answer-short h)))
-    where
-      whole : length m ≤ length b → (n ≡ length m) × (take n (written (value m) b .buffer) ≡ m) × (drop n (written (value m) b .buffer) ≡ drop n b)
-      whole h =
-          let w = written-whole m b h in
-          let same : n ≡ length m = value-same n (length m) (sym e ∙ answer-whole h) in
-          (same, rw (← w, same) (take-append-seam m _), rw (← w, same) (drop-append-seam m _))
+  message-left n e =
+      by-room
+      (λ h. let w = written-whole m b h in
+      let same : n ≡ length m = value-same n (length m) (sym e ∙ answer-whole h) in
+      (same, rw (← w, same) (take-append-seam m _), rw (← w, same) (drop-append-seam m _)))
+      (λ h. absurd (value-not-refused n bufferTooShort (sym e ∙ answer-short h)))
 
 pub refused-keeps : (o : Outcome (List ℕ)) (b : List ℕ) (k : ℕ) → written o b .answer ≡ refused k → written o b .buffer ≡ b
 unfolding written

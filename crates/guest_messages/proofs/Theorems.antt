@@ -1,9 +1,10 @@
 -- What readers ask of the guest's writer and ack reader, and of the two ends together, over the definitions alone.
 -- Assumes nothing.
-use Rattle.octets.specs.Prelude.{_≡_, refl, sym, ap, _∙_, _↔_, List, [], Bool, true, false, cond, ℕ, _+_, _*_, _^_, _<_, arith}
+use Rattle.octets.specs.Prelude.{_≡_, refl, sym, ap, _∙_, _↔_, List, [], Bool, true, false, cond, false≢true, ℕ, _+_, _*_, _^_, _<_, arith}
 use Rattle.octets.specs.Prelude.{length, take, drop, eqb, leb, ne-eqb, eqb-true, eqb-false, lt-leb, leb-true, leb-false}
 use Rattle.octets.specs.Numbers.{AreOctets, octetsOf}
 use Rattle.octets.specs.Outcome.{Outcome, value, refused}
+use Rattle.octets.proofs.Truth.{chain, neither}
 use Rattle.octets.proofs.Numbers.{length-octets}
 use Rattle.octets.proofs.Outcomes.{value-same, test-value}
 use Rattle.toeplitz.specs.Hash.{keyLength}
@@ -136,19 +137,12 @@ module _ (s : Settings) (m rest : List ℕ) where
 
     -- success exactly if every entry is below the queue count
     pub written-mapping-exactly : (ackStatus (carriedMessage s m rest) ≡ success) ↔ EachBelow (s .queues) es
-    written-mapping-exactly =
-        let exactly = all-below-exactly (s .queues) es in
-        (λ h. exactly .0 (below (allBelow (s .queues) es) refl h), λ h. good (exactly .1 h))
+    written-mapping-exactly = rw written-set-mapping (chain (by (allBelow (s .queues) es)) (all-below-exactly (s .queues) es))
       where
-        below : (t : Bool) → allBelow (s .queues) es ≡ t → ackStatus (carriedMessage s m rest) ≡ success → t ≡ true
-        below true a h = refl
-        below false a h =
-            let refused : ackStatus (carriedMessage s m rest) ≡ invalidParameter =
-            rw (written-set-mapping, a) (answered-status s invalidParameter (omega arith)) in
-            absurd (omega arith)
-
-        good : allBelow (s .queues) es ≡ true → ackStatus (carriedMessage s m rest) ≡ success
-        good a = rw (written-set-mapping, a) (answered-status (withMapping s (mappingOf es)) success (omega arith))
+        by : (t : Bool)
+            → (ackStatus (cond t (answered (withMapping s (mappingOf es)) success) (answered s invalidParameter)) ≡ success) ↔ (t ≡ true)
+        by true = (λ h. refl, λ a. answered-status (withMapping s (mappingOf es)) success (omega arith))
+        by false = neither (λ h. omega (arith, answered-status s invalidParameter (omega arith))) false≢true
 
     -- and then those entries are the table
     pub written-entries-are-table : EachBelow (s .queues) es → tableOf (carriedMessage s m rest .settings .mapping) ≡ es

@@ -1,7 +1,9 @@
 -- What a request leaves, by its status: on a nonzero one the settings as before, on success its own effect.
 -- Assumes nothing.
-use Rattle.octets.specs.Prelude.{_≡_, refl, ap, _∙_, List, Bool, true, false, cond, ℕ, suc, _/_, eqb, eq-eqb, ne-eqb, eqb-true}
+use Rattle.octets.specs.Prelude.{_≡_, refl, ap, _∙_, List, false, false≢true, ℕ, suc, _/_, arith, eqb, eq-eqb, ne-eqb, eqb-true}
 use lib.Dec.{eqb·suc-zero}
+use Rattle.octets.proofs.Truth.{by-test, same-truth}
+use Rattle.messages.proofs.AckOctets.{flags-success}
 use Rattle.messages.specs.Wire.{fieldSize, success}
 use Rattle.messages.specs.Settings.{mappingOf}
 use Rattle.messages.specs.Requests.{Request, getFlags, setFlags, setKey, setMapping, none, flagsIn, keyIn, entriesIn, statusOf}
@@ -11,11 +13,9 @@ use Rattle.messages.specs.Settings.{Settings}
 
 -- only a success has flags in its ack
 pub flags-on-success : (r : Request) (status : ℕ) → carriesFlags r (suc status) ≡ false
-flags-on-success getFlags status = eqb·suc-zero status
-flags-on-success setFlags status = refl
-flags-on-success setKey status = refl
-flags-on-success setMapping status = refl
-flags-on-success none status = refl
+flags-on-success r status =
+    same-truth (carriesFlags r (suc status)) false
+    (λ e. let q = flags-success r (suc status) e .1 in absurd (omega arith)) (λ e. absurd (false≢true e))
 
 module _ (r : Request) (s : Settings) (n : ℕ) (p : List ℕ) where
   pub carried-refused : (status : ℕ) → statusOf r (s .queues) n p ≡ suc status → answered s (suc status) ≡ carriedBy r s n p
@@ -38,11 +38,8 @@ module _ (r : Request) (s : Settings) (n : ℕ) (p : List ℕ) where
   pub settings-either : (P : Settings → Type 0) → P s → (statusOf r (s .queues) n p ≡ success → P (replaced r s n p))
       → P (carriedBy r s n p .settings)
   unfolding carriedBy
-  settings-either P before after = by (eqb (statusOf r (s .queues) n p) success) refl
-    where
-      by : (t : Bool) → eqb (statusOf r (s .queues) n p) success ≡ t → P (cond t (replaced r s n p) s)
-      by true e = after (eqb-true _ _ e)
-      by false e = before
+  settings-either P before after =
+      by-test P (eqb (statusOf r (s .queues) n p) success) _ _ (λ e. after (eqb-true _ _ e)) (λ e. before)
 
 pub replaced-queues : (r : Request) (s : Settings) (n : ℕ) (p : List ℕ) → replaced r s n p .queues ≡ s .queues
 unfolding replaced

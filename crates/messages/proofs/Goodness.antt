@@ -6,8 +6,8 @@ use Rattle.toeplitz.specs.Hash.{keyLength}
 use Rattle.messages.specs.Wire.{fieldSize, success, allFlags}
 use Rattle.messages.specs.Settings.{maxEntries, isPowerOfTwo, EachBelow}
 use Rattle.messages.specs.Settings.{tableOf, mappingOf, GoodMapping, Good}
-use Rattle.messages.specs.Requests.{Request, getFlags, setFlags, setKey, setMapping, none, flagsIn, keyIn, entriesIn, statusOf}
-use Rattle.messages.specs.Requests.{withFlags, withKey, withMapping, replaced}
+use Rattle.messages.specs.Requests.{Request, getFlags, setFlags, setKey, setMapping, none, entriesIn, statusOf}
+use Rattle.messages.specs.Requests.{replaced}
 use Rattle.messages.specs.declared.Mapping.{Mapping}
 use Rattle.messages.specs.Settings.{Settings}
 use Rattle.messages.proofs.Powers.{listed-parts}
@@ -31,33 +31,19 @@ first-table q some zero l = some
 first-table q some (suc i) l = absurd (omega arith)
 
 module _ (s : Settings) (n : ℕ) (p : List ℕ) (good : Good s) (whole : keyLength ≤ length p) where
-  with-flags : (flags : ℕ) → flags ≤ allFlags → Good (withFlags s flags)
-  with-flags flags l =
-      record { some-queue = good .some-queue; queues = good .queues; flags = l; key = good .key; mapping = good .mapping }
-
-  with-key : Good (withKey s (keyIn p))
-  with-key =
-      record {
-        some-queue = good .some-queue;
-        queues = good .queues;
-        flags = good .flags;
-        key = length-take-le keyLength p whole;
-        mapping = good .mapping;
-      }
-
-  with-mapping : (m : Mapping) → GoodMapping (s .queues) m → Good (withMapping s m)
-  with-mapping m g =
-      record { some-queue = good .some-queue; queues = good .queues; flags = good .flags; key = good .key; mapping = g }
+  with-parts : (flags : ℕ) (key : List ℕ) (m : Mapping) → flags ≤ allFlags → length key ≡ keyLength → GoodMapping (s .queues) m
+      → Good (record { queues = s .queues; flags = flags; key = key; mapping = m })
+  with-parts flags key m f k g = record { some-queue = good .some-queue; queues = good .queues; flags = f; key = k; mapping = g }
 
   pub good-replaced : (r : Request) → statusOf r (s .queues) n p ≡ success → Good (replaced r s n p)
   unfolding replaced
   good-replaced getFlags e = good
-  good-replaced setFlags e = with-flags (flagsIn p) (set-flags-exactly (s .queues) n p .0 e .1)
-  good-replaced setKey e = with-key
+  good-replaced setFlags e = with-parts _ _ _ (set-flags-exactly (s .queues) n p .0 e .1) (good .key) (good .mapping)
+  good-replaced setKey e = with-parts _ _ _ (good .flags) (length-take-le keyLength p whole) (good .mapping)
   good-replaced setMapping e =
       let table = entriesIn (n / fieldSize) p in
       let long : length table ≡ n / fieldSize = length-entries (n / fieldSize) p in
       let x = set-mapping-exactly (s .queues) n p .0 e in
-      with-mapping (mappingOf table)
+      with-parts _ _ _ (good .flags) (good .key)
       (good-mapping (s .queues) table (rw long (x .power)) (rw long (x .few)) (all-below-exactly (s .queues) table .0 (x .below)))
   good-replaced none e = good

@@ -1,7 +1,7 @@
 -- What of a payload a request looks at: the octets that its header counts, and none where it counts more than are kept.
 -- Assumes nothing.
-use Rattle.octets.specs.Prelude.{_≡_, refl, sym, ap, _∙_, List, Bool, true, false, cond, ℕ, _+_, _*_, _/_, _%_, _≤_, _<_, arith}
-use Rattle.octets.specs.Prelude.{length, getD, take, getD-take, eqb, leb, eqb-true, leb-true}
+use Rattle.octets.specs.Prelude.{_≡_, refl, sym, ap, _∙_, List, cond, ℕ, _+_, _*_, _/_, _%_, _≤_, _<_, arith}
+use Rattle.octets.specs.Prelude.{getD, take, getD-take, eqb, leb, eqb-true, leb-true}
 use lib.Seq.{ext-getD}
 use Rattle.octets.specs.Numbers.{numberAt}
 use Rattle.octets.proofs.Numbers.{number-same}
@@ -23,16 +23,10 @@ module _ (n : ℕ) (p p′ : List ℕ) (same : take n p ≡ take n p′) where
   field-same i l = number-same fieldSize p p′ i i (λ k h. octet-same (i + k) (omega arith))
 
   entries-same : (k : ℕ) → k * fieldSize ≤ n → entriesIn k p ≡ entriesIn k p′
-  entries-same k l = ext-getD 0 (entriesIn k p) (entriesIn k p′) (length-entries k p ∙ sym (length-entries k p′)) each
-    where
-      each : (i : ℕ) → i < length (entriesIn k p) → getD (entriesIn k p) i 0 ≡ getD (entriesIn k p′) i 0
-      each i h =
-          let b : i < k = rw length-entries at h in
-          entry-at k p i b ∙ field-same (i * fieldSize) (omega arith) ∙ sym (entry-at k p′ i b)
-
-cond-same : {A : Type 0} (t : Bool) (a b c : A) → (t ≡ true → a ≡ b) → cond t a c ≡ cond t b c
-cond-same true a b c h = h refl
-cond-same false a b c h = refl
+  entries-same k l =
+      ext-getD 0 (entriesIn k p) (entriesIn k p′) (length-entries k p ∙ sym (length-entries k p′))
+      (λ i h. let b : i < k = rw length-entries at h in
+      entry-at k p i b ∙ field-same (i * fieldSize) (omega arith) ∙ sym (entry-at k p′ i b))
 
 -- two payloads that agree as far as the header counts them, where they are kept at all
 module _ (s : Settings) (n : ℕ) (p p′ : List ℕ) (same : n ≤ maxPayload → take n p ≡ take n p′) where
@@ -73,5 +67,5 @@ module _ (s : Settings) (n : ℕ) (p p′ : List ℕ) (same : n ≤ maxPayload �
   carried-same r =
       let passed = eqb (statusOf r (s .queues) n p) success in
       let settings : cond passed (replaced r s n p) s ≡ cond passed (replaced r s n p′) s =
-      cond-same passed _ _ s (λ t. replaced-same r (eqb-true _ _ t)) in
+      check-same passed s _ _ (λ t. replaced-same r (eqb-true _ _ t)) in
       rw (settings, status-same r (s .queues)) refl

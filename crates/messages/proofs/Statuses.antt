@@ -63,19 +63,14 @@ module _ (q n : ℕ) (p : List ℕ) where
   unfolding statusOf
   none-supported = refl
 
-  -- when each request succeeds
-  pub get-flags-exactly : (statusOf getFlags q n p ≡ success) ↔ (n ≡ 0)
-  unfolding statusOf
-  get-flags-exactly = (λ e. eqb-true _ _ (check-passed (eqb n 0) _ _ e .0), get-flags-done)
-
+  -- when a request succeeds
   pub set-flags-exactly : (statusOf setFlags q n p ≡ success) ↔ ((n ≡ fieldSize) × (flagsIn p ≤ allFlags))
   unfolding statusOf
-  set-flags-exactly = (passed, λ x. set-flags-done (x .0) (x .1))
-    where
-      passed : statusOf setFlags q n p ≡ success → (n ≡ fieldSize) × (flagsIn p ≤ allFlags)
-      passed e =
-          let size = check-passed (eqb n fieldSize) _ _ e in
-          (eqb-true _ _ (size .0), leb-true _ _ (check-passed (leb (flagsIn p) allFlags) _ _ (size .1) .0))
+  set-flags-exactly = (
+    λ e. let size = check-passed (eqb n fieldSize) _ _ e in
+        (eqb-true _ _ (size .0), leb-true _ _ (check-passed (leb (flagsIn p) allFlags) _ _ (size .1) .0)),
+    λ x. set-flags-done (x .0) (x .1),
+  )
 
   pub set-key-exactly : (statusOf setKey q n p ≡ success) ↔ (n ≡ keyLength)
   unfolding statusOf
@@ -90,15 +85,14 @@ module _ (q n : ℕ) (p : List ℕ) where
 
   pub set-mapping-exactly : (statusOf setMapping q n p ≡ success) ↔ MappingPasses
   unfolding statusOf
-  set-mapping-exactly = (passed, λ x. set-mapping-done (x .multiple) (x .power) (x .few) (x .below))
-    where
-      passed : statusOf setMapping q n p ≡ success → MappingPasses
-      passed e =
-          let size = check-passed (eqb (n % fieldSize) 0) _ _ e in
-          let power = check-passed (isPowerOfTwo (n / fieldSize)) _ _ (size .1) in
-          let few = check-passed (leb (n / fieldSize) maxEntries) _ _ (power .1) in
-          let below = check-passed (allBelow q (entriesIn (n / fieldSize) p)) _ _ (few .1) in
-          record { multiple = eqb-true _ _ (size .0); power = power .0; few = leb-true _ _ (few .0); below = below .0 }
+  set-mapping-exactly = (
+    λ e. let size = check-passed (eqb (n % fieldSize) 0) _ _ e in
+        let power = check-passed (isPowerOfTwo (n / fieldSize)) _ _ (size .1) in
+        let few = check-passed (leb (n / fieldSize) maxEntries) _ _ (power .1) in
+        let below = check-passed (allBelow q (entriesIn (n / fieldSize) p)) _ _ (few .1) in
+        record { multiple = eqb-true _ _ (size .0); power = power .0; few = leb-true _ _ (few .0); below = below .0 },
+    λ x. set-mapping-done (x .multiple) (x .power) (x .few) (x .below),
+  )
 
   -- no status is above 3
   pub status-most : (r : Request) → statusOf r q n p ≤ bufferOverflow

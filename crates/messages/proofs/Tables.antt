@@ -1,12 +1,12 @@
 -- Entries of a payload, one after the other; and tables whose entries are all below the queue count.
 -- Assumes nothing.
-use Rattle.octets.specs.Prelude.{_≡_, refl, sym, ap, ap₂, _∙_, List, [], _∷_, _++_, _↔_, Bool, true, false, ℕ, zero, suc, _+_}
+use Rattle.octets.specs.Prelude.{_≡_, refl, sym, ap, ap₂, _∙_, List, [], _∷_, _++_, _↔_, true, false, false≢true, ℕ, zero, suc, _+_}
 use Rattle.octets.specs.Prelude.{_-_, _*_, _≤_, _<_, arith, length, getD, drop, set, replicate, ltb, lt-ltb, ltb-true}
 use native.Mathlib.Nat.{zero-mul}
 use lib.Seq.{set-at, append-snoc}
 use Rattle.octets.specs.Numbers.{numberAt}
 use Rattle.octets.proofs.Numbers.{number-drop}
-use Rattle.octets.proofs.Truth.{both-true}
+use Rattle.octets.proofs.Truth.{same-truth, both-true}
 use Rattle.messages.specs.Settings.{maxEntries, EachBelow, mappingOf}
 use Rattle.messages.specs.Requests.{entriesIn, allBelow}
 
@@ -62,14 +62,10 @@ pub below-next : (q : ℕ) (p : List ℕ) (k x : ℕ) → x ≡ numberAt 8 p (k 
 below-next q p k x e h a = rw (entries-next, ← e) (below-snoc q x (entriesIn k p) h a)
 
 pub not-below : (q n : ℕ) (p : List ℕ) (k x : ℕ) → k < n → x ≡ numberAt 8 p (k * 8) → q ≤ x → allBelow q (entriesIn n p) ≡ false
-not-below q n p k x l e h = by (allBelow q (entriesIn n p)) refl
-  where
-    by : (t : Bool) → allBelow q (entriesIn n p) ≡ t → t ≡ false
-    by true a =
-        let less : getD (entriesIn n p) k 0 < q = test-each q (entriesIn n p) a k (rw length-entries l) in
-        let it : getD (entriesIn n p) k 0 ≡ x = entry-at n p k l ∙ sym e in
-        absurd (omega arith)
-    by false a = refl
+not-below q n p k x l e h =
+    let it : getD (entriesIn n p) k 0 ≡ x = entry-at n p k l ∙ sym e in
+    same-truth (allBelow q (entriesIn n p)) false
+    (λ a. absurd (omega (arith, test-each q (entriesIn n p) a k (rw length-entries l)))) (λ f. absurd (false≢true f))
 
 -- the array with one entry more
 pub stored-next : (k x : ℕ) (p table : List ℕ) → k < maxEntries → x ≡ numberAt 8 p (k * 8) → table ≡ mappingOf (entriesIn k p) .entries

@@ -96,13 +96,9 @@ good-at-setup q some most =
 
 -- the listed mapping lengths are 2 ^ 0, 2 ^ 1, .. 2 ^ 7
 pub listed-exactly : (n : ℕ) → (isListed n ≡ true) ↔ ((k : ℕ) × (k ≤ 7) × (n ≡ 2 ^ k))
-listed-exactly n = (to, from)
-  where
-    to : isListed n ≡ true → (k : ℕ) × (k ≤ 7) × (n ≡ 2 ^ k)
-    to e =
-        let x = listed-parts n .0 e in
-        let p = power-exactly n .0 (x .0) in
-        (p .0, exponent-most (p .0) 7 (rw (← p .1) (x .1)), p .1)
-
-    from : ((k : ℕ) × (k ≤ 7) × (n ≡ 2 ^ k)) → isListed n ≡ true
-    from (k, l, e) = listed-parts n .1 (power-exactly n .1 (k, e), rw e (pow-mono l))
+listed-exactly n = (
+  λ e. let x = listed-parts n .0 e in
+      let p = power-exactly n .0 (x .0) in
+      (p .0, exponent-most (p .0) 7 (rw (← p .1) (x .1)), p .1),
+  λ x. listed-parts n .1 (power-exactly n .1 (x .0, x .2), rw (x .2) (pow-mono (x .1))),
+)

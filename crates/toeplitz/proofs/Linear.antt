@@ -24,20 +24,14 @@ pub bitAt-lt : (xs : List ℕ) (i : ℕ) → bitAt xs i < 2
 bitAt-lt xs i = bit-lt (getD xs (i / 8) 0 / 2 ^ (7 - i % 8))
 
 bitAt-xor : (xs ys : List ℕ) (i : ℕ) → bitAt (xorOctets xs ys) i ≡ bitXor (bitAt xs i) (bitAt ys i)
-bitAt-xor xs ys i =
-    let k : ℕ = 7 - i % 8 in
-    ap (λ (x : ℕ). x / 2 ^ k % 2) (getD-xor xs ys (i / 8))
-    ∙ ap (λ (x : ℕ). x % 2) (xor-shr (getD xs (i / 8) 0) (getD ys (i / 8) 0) k)
-    ∙ xor-mod (getD xs (i / 8) 0 / 2 ^ k) (getD ys (i / 8) 0 / 2 ^ k) 1
+bitAt-xor xs ys i = rw (getD-xor, xor-shr) (xor-mod (getD xs (i / 8) 0 / 2 ^ (7 - i % 8)) (getD ys (i / 8) 0 / 2 ^ (7 - i % 8)) 1)
 
 bitsAt-xor : (xs ys : List ℕ) (i n : ℕ) → bitsAt (xorOctets xs ys) i n ≡ bitXor (bitsAt xs i n) (bitsAt ys i n)
 unfolding bitsAt
 bitsAt-xor xs ys i zero = refl
 bitsAt-xor xs ys i (suc n) =
-    let x : ℕ = bitAt xs (i + n) in
-    let y : ℕ = bitAt ys (i + n) in
     ap₂ (λ (u v : ℕ). u * 2 + v) (bitsAt-xor xs ys i n) (bitAt-xor xs ys (i + n))
-    ∙ sym (xor-block 1 (bitsAt xs i n) (bitsAt ys i n) x y (bitAt-lt xs (i + n)) (bitAt-lt ys (i + n)))
+    ∙ sym (xor-block 1 (bitsAt xs i n) (bitsAt ys i n) _ _ (bitAt-lt xs (i + n)) (bitAt-lt ys (i + n)))
 
 -- a window counts in the XOR of two bits as often as in both together
 whenSet-bits : (x y w : ℕ) → x < 2 → y < 2 → whenSet (bitXor x y) w ≡ bitXor (whenSet x w) (whenSet y w)

@@ -103,61 +103,42 @@ below-mirror f a p =
     (λ j h. ap f (omega (arith, mirror3 a p (a + a + j) (omega arith) (omega arith)))))
     ∙ sym (below-split (λ i. f (mirror a p i)) (a + a) (p + p))
 
-getD-second : (xs ys : List ℕ) (n k : ℕ) → length xs ≡ n → n ≤ k → getD (xs ++ ys) k 0 ≡ getD ys (k - n) 0
-getD-second xs ys n k e h =
-    let s : k ≡ length xs + (k - n) = omega arith in
-    ap (λ (m : ℕ). getD (xs ++ ys) m 0) s ∙ getD-append-add xs ys (k - n) 0
-
-getD-first : (xs ys : List ℕ) (n k : ℕ) → length xs ≡ n → k < n → getD (xs ++ ys) k 0 ≡ getD xs k 0
-getD-first xs ys n k e h = List·getD-append xs ys 0 k (omega arith)
-
 part-length : (xs : List ℕ) (m n : ℕ) → n + m ≤ length xs → length (take m (drop n xs)) ≡ m
 part-length xs m n h = simp (length-take, length-drop) (omega arith)
 
+-- octet k of m octets of xs from n on and the octets ys behind them: of the first, or of the others
+module _ (xs ys : List ℕ) (m n k : ℕ) (fits : n + m ≤ length xs) where
+  in-part : k < m → getD (take m (drop n xs) ++ ys) k 0 ≡ getD xs (n + k) 0
+  in-part h =
+      List·getD-append (take m (drop n xs)) ys 0 k (rw (part-length xs m n fits) h) ∙ getD-take m (drop n xs) k 0 h ∙ getD-drop n xs k 0
+
+  behind-part : m ≤ k → getD (take m (drop n xs) ++ ys) k 0 ≡ getD ys (k - m) 0
+  behind-part h =
+      let s : k ≡ length (take m (drop n xs)) + (k - m) = omega (arith, part-length xs m n fits) in
+      ap (λ (i : ℕ). getD (take m (drop n xs) ++ ys) i 0) s ∙ getD-append-add (take m (drop n xs)) ys (k - m) 0
+
 module _ (a p : ℕ) (xs : List ℕ) (e : length xs ≡ sizeOf a p) where
-  abbrev a1 : List ℕ
-  a1 = take a xs
-
-  abbrev a2 : List ℕ
-  a2 = take a (drop a xs)
-
-  abbrev p1 : List ℕ
-  p1 = take p (drop (a + a) xs)
-
-  abbrev p2 : List ℕ
-  p2 = take p (drop (a + a + p) xs)
-
-  l1 : length a2 ≡ a
-  l1 = part-length xs a a (omega arith)
-
-  l2 : length a1 ≡ a
-  l2 = part-length xs a 0 (omega arith)
-
-  l3 : length p2 ≡ p
-  l3 = part-length xs p (a + a + p) (omega arith)
-
   pub length-swapped : length (swapped a p xs) ≡ length xs
   unfolding swapped
-  length-swapped = simp length-append (omega (arith, l1, l2, l3, part-length xs p (a + a) (omega arith)))
+  length-swapped =
+      let part = part-length xs in
+      simp length-append
+      (omega (arith, part a a (omega arith), part a 0 (omega arith), part p (a + a + p) (omega arith), part p (a + a) (omega arith)))
 
   pub getD-swapped : (k : ℕ) → Place a p k → getD (swapped a p xs) k 0 ≡ getD xs (mirror a p k) 0
   unfolding swapped
-  getD-swapped k (part1 h) =
-      getD-first a2 _ a k l1 h ∙ getD-take a (drop a xs) k 0 h ∙ getD-drop a xs k 0
-      ∙ ap (λ (m : ℕ). getD xs m 0) (omega (arith, mirror1 a p k h))
+  getD-swapped k (part1 h) = in-part xs _ a a k (omega arith) h ∙ ap (λ (m : ℕ). getD xs m 0) (omega (arith, mirror1 a p k h))
   getD-swapped k (part2 g h) =
-      getD-second a2 _ a k l1 g ∙ getD-first a1 _ a (k - a) l2 (omega arith)
-      ∙ getD-take a xs (k - a) 0 (omega arith)
-      ∙ ap (λ (m : ℕ). getD xs m 0) (sym (mirror2 a p k g h))
+      behind-part xs _ a a k (omega arith) g ∙ in-part xs _ a 0 (k - a) (omega arith) (omega arith)
+      ∙ ap (λ (m : ℕ). getD xs m 0) (omega (arith, mirror2 a p k g h))
   getD-swapped k (part3 g h) =
-      getD-second a2 _ a k l1 (omega arith) ∙ getD-second a1 _ a (k - a) l2 (omega arith)
-      ∙ getD-first p2 _ p (k - a - a) l3 (omega arith) ∙ getD-take p (drop (a + a + p) xs) (k - a - a) 0 (omega arith)
-      ∙ getD-drop (a + a + p) xs (k - a - a) 0
+      behind-part xs _ a a k (omega arith) (omega arith) ∙ behind-part xs _ a 0 (k - a) (omega arith) (omega arith)
+      ∙ in-part xs _ p (a + a + p) (k - a - a) (omega arith) (omega arith)
       ∙ ap (λ (m : ℕ). getD xs m 0) (omega (arith, mirror3 a p k g h))
   getD-swapped k (part4 g h) =
-      getD-second a2 _ a k l1 (omega arith) ∙ getD-second a1 _ a (k - a) l2 (omega arith)
-      ∙ getD-second p2 _ p (k - a - a) l3 (omega arith) ∙ getD-take p (drop (a + a) xs) (k - a - a - p) 0 (omega arith)
-      ∙ getD-drop (a + a) xs (k - a - a - p) 0
+      behind-part xs _ a a k (omega arith) (omega arith) ∙ behind-part xs _ a 0 (k - a) (omega arith) (omega arith)
+      ∙ behind-part xs _ p (a + a + p) (k - a - a) (omega arith) (omega arith)
+      ∙ getD-take p (drop (a + a) xs) (k - a - a - p) 0 (omega arith) ∙ getD-drop (a + a) xs (k - a - a - p) 0
       ∙ ap (λ (m : ℕ). getD xs m 0) (omega (arith, mirror4 a p k g))
 
   bitAt-swapped : (i : ℕ) → i < sizeOf (a * 8) (p * 8) → bitAt (swapped a p xs) i ≡ bitAt xs (mirror (a * 8) (p * 8) i)

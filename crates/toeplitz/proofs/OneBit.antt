@@ -1,42 +1,27 @@
 -- Inputs with a single bit set: their octets, their bits, and their hash, which is the window at that bit.
 -- Assumes nothing.
-use Rattle.octets.specs.Prelude.{_≡_, refl, ap, _∙_, List, Bool, true, false, _&&_, ℕ, zero, suc, _*_, _/_, _%_, _^_, _-_, _<_}
+use Rattle.octets.specs.Prelude.{_≡_, refl, ap, _∙_, List, ℕ, zero, suc, _+_, _*_, _/_, _%_, _^_, _-_, _<_}
 use Rattle.octets.specs.Prelude.{ℕ-discrete, arith, length, getD, replicate, length-set, length-replicate, getD-set-same}
-use Rattle.octets.specs.Prelude.{getD-set-other, T, eqb, eq-eqb, ne-eqb}
-use native.Mathlib.Nat.{zero-div}
-use lib.Pow.{pow-lt}
-use lib.Dec.{eqb→eq}
+use Rattle.octets.specs.Prelude.{getD-set-other, decLt, pow-suc}
+use native.Mathlib.Nat.{zero-div, one-mul, div-eq-of-lt, mul-mod-left}
+use lib.Pow.{pow-lt, pow-add, shl-shr}
 use Rattle.toeplitz.specs.Hash.{bitAt, windowAt, whenSet, termAt, xorBelow, publishedHash}
 use Rattle.toeplitz.specs.TwoWay.{inputSize, IsInput, oneBit}
 use Rattle.toeplitz.proofs.Sums.{below-one}
 
--- a test at every number below n, computed
-both-parts : (a b : Bool) → T (a && b) → T a × T b
-both-parts true b t = (tt, t)
-both-parts false b t = absurd t
+-- the bits of a power of two: its own, those below and those above
+own-bit : (q : ℕ) → 2 ^ q / 2 ^ q % 2 ≡ 1
+own-bit q = ap (λ (x : ℕ). x % 2) (rw one-mul at (shl-shr 1 q))
 
-abbrev all : (ℕ → Bool) → ℕ → Bool
-all f zero = true
-all f (suc n) = f n && all f n
+lower-bit : (k q : ℕ) → 2 ^ (suc k + q) / 2 ^ q % 2 ≡ 0
+lower-bit k q = rw (pow-add 2 (suc k) q, shl-shr, pow-suc) (mul-mod-left (2 ^ k) 2)
 
-all-at : (f : ℕ → Bool) (n : ℕ) → T (all f n) → (k : ℕ) → k < n → T (f k)
-all-at f zero t k h = absurd (omega arith)
-all-at f (suc n) t k h =
-    elim (ℕ-discrete k n) [
-      | yes e ↦ rw e (both-parts (f n) (all f n) t .0)
-      | no d ↦ all-at f n (both-parts (f n) (all f n) t .1) k (omega arith)
+other-bit : (p q : ℕ) → (p ≡ q → ⊥) → 2 ^ p / 2 ^ q % 2 ≡ 0
+other-bit p q d =
+    elim (decLt p q) [
+      | yes l ↦ rw (div-eq-of-lt (pow-lt l)) refl
+      | no n ↦ ap (λ (x : ℕ). 2 ^ x / 2 ^ q % 2) (omega arith) ∙ lower-bit (p - q - 1) q
     ]
-
--- the bits of an octet with one bit set
-abbrev one-if : Bool → ℕ
-one-if true = 1
-one-if false = 0
-
-abbrev cell : ℕ → ℕ → Bool
-cell p q = eqb (2 ^ p / 2 ^ q % 2) (one-if (eqb p q))
-
-octet-bit : (p q : ℕ) → p < 8 → q < 8 → 2 ^ p / 2 ^ q % 2 ≡ one-if (eqb p q)
-octet-bit p q hp hq = eqb→eq _ _ (all-at (cell p) 8 (all-at (λ x. all (cell x) 8) 8 tt p hp) q hq)
 
 zeros : (n i : ℕ) → getD {A = ℕ} (replicate n 0) i 0 ≡ 0
 zeros zero i = refl
@@ -70,21 +55,13 @@ module _ (n b : ℕ) (h : b < n * 8) where
       ]
 
   bit-same : bitAt (oneBit n b) b ≡ 1
-  bit-same =
-      ap (λ (x : ℕ). x / 2 ^ (7 - b % 8) % 2) octet-same
-      ∙ octet-bit (7 - b % 8) (7 - b % 8) (omega arith) (omega arith)
-      ∙ ap one-if (eq-eqb (7 - b % 8) (7 - b % 8) refl)
+  bit-same = rw octet-same (own-bit (7 - b % 8))
 
   bit-other : (i : ℕ) → i < n * 8 → (i ≡ b → ⊥) → bitAt (oneBit n b) i ≡ 0
   bit-other i l d =
       elim (ℕ-discrete (i / 8) (b / 8)) [
-        | yes e ↦
-            ap (λ (x : ℕ). x / 2 ^ (7 - i % 8) % 2) (ap (λ (k : ℕ). getD (oneBit n b) k 0) e ∙ octet-same)
-            ∙ octet-bit (7 - b % 8) (7 - i % 8) (omega arith) (omega arith)
-            ∙ ap one-if (ne-eqb (7 - b % 8) (7 - i % 8) (λ q. d (omega arith)))
-        | no m ↦
-            ap (λ (x : ℕ). x / 2 ^ (7 - i % 8) % 2) (octet-other (i / 8) m)
-            ∙ ap (λ (x : ℕ). x % 2) (zero-div (2 ^ (7 - i % 8)))
+        | yes e ↦ rw (e, octet-same) (other-bit (7 - b % 8) (7 - i % 8) (λ q. d (omega arith)))
+        | no m ↦ rw (octet-other (i / 8) m, zero-div) refl
       ]
 
 -- it is an input of its type

@@ -168,11 +168,7 @@ module _ (key : List ℕ) (t : ℕ) (hk : length key ≡ keyLength) (ht : t ≤ 
       ↔ ((xs : List ℕ) → IsInput t xs → hashOutcome key xs ≡ hashOutcome key (reverseOf t xs))
   two-way-yes-hash-calls = (
     λ e xs q. answers xs q ∙ ap value (two-way-yes-exactly .0 e xs q) ∙ sym (answers (reverseOf t xs) (reverse-is-input t xs q)),
-    λ w. two-way-yes-exactly .1
-        (λ xs q.
-        let r = answers (reverseOf t xs) (reverse-is-input t xs q) in
-        let same : value (publishedHash key xs) ≡ value (publishedHash key (reverseOf t xs)) = sym (answers xs q) ∙ w xs q ∙ r in
-        cc),
+    λ w. two-way-yes-exactly .1 (λ xs q. cc (answers xs q, w xs q, answers (reverseOf t xs) (reverse-is-input t xs q))),
   )
     where
       answers : (xs : List ℕ) → IsInput t xs → hashOutcome key xs ≡ value (publishedHash key xs)

@@ -38,23 +38,16 @@ window-next key i =
     let next : bitAt key (i + 1 + 31) ≡ bitAt key (i + 32) = ap (bitAt key) (omega arith) in
     omega (arith, bits-append key i 1 31, bits-lt key (i + 1) 31, bits-more key (i + 1) 31, next)
 
--- bit j of an octet, which has k bits below it
-bit-of-octet : (xs : List ℕ) (a j k : ℕ) → j + k ≡ 7 → bitAt xs (a * 8 + j) ≡ getD xs a 0 / 2 ^ k % 2
-bit-of-octet xs a j k e =
-    let div : (a * 8 + j) / 8 ≡ a = omega arith in
-    let rem : 7 - (a * 8 + j) % 8 ≡ k = omega arith in
-    ap₂ (λ (x y : ℕ). getD xs x 0 / 2 ^ y % 2) div rem
-
+-- the top n bits of an octet, which has k bits below them
 octet-top : (xs : List ℕ) (a n k : ℕ) → n + k ≡ 8 → getD xs a 0 < 256 → bitsAt xs (a * 8) n ≡ getD xs a 0 / 2 ^ k
 unfolding bitsAt
 octet-top xs a zero k e h =
     let k8 : k ≡ 8 = omega arith in
     rw k8 (omega arith)
 octet-top xs a (suc n) k e h =
-    ap₂ (λ (x y : ℕ). x * 2 + y)
-    (octet-top xs a n (k + 1) (omega arith) h ∙ sym (shr-shr (getD xs a 0) k 1))
-    (bit-of-octet xs a n k (omega arith))
-    ∙ omega arith
+    let div : (a * 8 + n) / 8 ≡ a = omega arith in
+    let rem : 7 - (a * 8 + n) % 8 ≡ k = omega arith in
+    rw (octet-top xs a n (k + 1) (omega arith) h, ← shr-shr (getD xs a 0) k 1, div, rem) (omega arith)
 
 octet : (xs : List ℕ) (a : ℕ) → getD xs a 0 < 256 → bitsAt xs (a * 8) 8 ≡ getD xs a 0
 octet xs a h = octet-top xs a 8 0 refl h ∙ omega arith

@@ -1,7 +1,6 @@
 -- `frontend::reader::is_allowed` meets its contract: the types 2 to 5 are the requests.
 -- Assumes nothing.
-use Rattle.octets.specs.Prelude.{sym, _<_, arith, needs}
-use Rattle.messages.specs.Wire.{setMappingType}
+use Rattle.octets.specs.Prelude.{sym, arith, needs}
 use Rattle.guest_messages.proofs.Accepts.{request-allowed, below-allowed, above-allowed}
 use Rattle.ack_reader.proofs.is_allowed.Statement.{statement}
 use Rattle.ack_reader.proofs.is_allowed.Tie as tie
@@ -10,9 +9,7 @@ returns : tie.Need-returns
 returns c = sym (below-allowed _ _ (c .if1 .taken))
 
 returns-2 : tie.Need-returns-2
-returns-2 c =
-    let above : setMappingType < c .before .before .args .kind = omega (arith, c .if2 .taken) in
-    sym (above-allowed _ _ above)
+returns-2 c = sym (above-allowed _ _ (omega (arith, c .if2 .taken)))
 
 returns-3 : tie.Need-returns-3
 returns-3 c = sym (request-allowed _ _ (c .before .if1 .left) (c .if2 .left))

@@ -1,10 +1,11 @@
 -- `directions::two_way` meets its contract: the tests and the two searches pick the case of `twoWayOutcome`.
 -- Assumes nothing.
 use Rattle.octets.specs.Prelude.{_≡_, sym, ap, _∙_, List, ℕ, _+_, _*_, arith, needs, eq-eqb, ne-eqb, le-leb, lt-leb}
+use mathlib.Core.Path.{subst₂, subst₃}
 use Rattle.octets.specs.Outcome.{value}
 use Rattle.toeplitz.specs.TwoWay.{addressSize, portSize, Verdict, differAt, verdict, twoWayOutcome}
 use Rattle.directions.specs.declared.Found.{Found}
-use Rattle.directions.proofs.Searches.{InAddresses, InPorts, first-search, second-search, in-addresses, in-ports, nowhere}
+use Rattle.directions.proofs.Searches.{InAddresses, InPorts, in-addresses, in-ports, nowhere}
 use Rattle.directions.proofs.two_way.Statement.{statement}
 use Rattle.directions.proofs.two_way.Tie as tie
 
@@ -27,11 +28,8 @@ module _ (d : tie.After-first-difference) where
   address-ensures : d .before .before .address-size .result ≡ addressSize t
   address-ensures = d .before .before .address-size .ensures .0
 
-  port-ensures : d .before .port-size .result ≡ portSize t
-  port-ensures = d .before .port-size .ensures .0
-
   first : {r : Found} → d .first-difference .result ≡ r → InAddresses key (addressSize t) r
-  first q = first-search key t address-ensures q (d .first-difference .ensures)
+  first q = subst₂ (InAddresses key) address-ensures q (d .first-difference .ensures)
 
 -- after the search in the ports
 module _ (e : tie.After-first-difference2) where
@@ -39,7 +37,7 @@ module _ (e : tie.After-first-difference2) where
   d₁ = e .before .before .before
 
   second : {r : Found} → e .first-difference2 .result ≡ r → InPorts (key d₁) (addressSize (t d₁)) (portSize (t d₁)) r
-  second q = second-search (key d₁) (t d₁) (address-ensures d₁) (port-ensures d₁) q (e .first-difference2 .ensures)
+  second q = subst₃ (InPorts (key d₁)) (address-ensures d₁) (d₁ .before .port-size .ensures .0) q (e .first-difference2 .ensures)
 
 returns : tie.Need-returns
 returns c = simp (ne-eqb _ _ (c .if1 .taken))

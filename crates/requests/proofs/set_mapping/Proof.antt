@@ -1,8 +1,8 @@
 -- `requests::set_mapping` meets its contract: the tests on the way to each return pick the row of the table.
 -- Assumes nothing.
-use Rattle.octets.specs.Prelude.{_≡_, sym, _∙_, true, _/_, _%_, _<_, arith, needs, not-true, not-false}
+use Rattle.octets.specs.Prelude.{_≡_, sym, _∙_, true, _/_, _%_, arith, needs, not-true, not-false}
 use Rattle.messages.specs.Wire.{fieldSize}
-use Rattle.messages.specs.Settings.{maxEntries, isPowerOfTwo, settingsOf}
+use Rattle.messages.specs.Settings.{isPowerOfTwo, settingsOf}
 use Rattle.messages.specs.Requests.{setMapping}
 use Rattle.messages.proofs.Statuses.{set-mapping-remainder, set-mapping-power, set-mapping-many, set-mapping-entry, set-mapping-done}
 use Rattle.messages.proofs.Effects.{carried-refused, mapping-set}
@@ -10,9 +10,7 @@ use Rattle.requests.proofs.set_mapping.Statement.{statement}
 use Rattle.requests.proofs.set_mapping.Tie as tie
 
 returns : tie.Need-returns
-returns c flags key =
-    let uneven : c .before .before .args .size % fieldSize ≡ 0 → ⊥ = λ e. omega (arith, c .if1 .taken) in
-    carried-refused setMapping _ _ _ 1 (set-mapping-remainder _ _ _ uneven)
+returns c flags key = carried-refused setMapping _ _ _ 1 (set-mapping-remainder _ _ _ (λ e. omega (arith, c .if1 .taken)))
 
 returns-2 : tie.Need-returns-2
 returns-2 c flags key =
@@ -33,9 +31,7 @@ module _ (d : tie.Else2) where
 
 returns-3 : tie.Need-returns-3
 returns-3 c flags key =
-    let d = c .before in
-    let many : maxEntries < start d .args .size / fieldSize = omega (arith, c .if3 .taken) in
-    carried-refused setMapping _ _ _ 2 (set-mapping-many _ _ _ (multiple d) (power d) many)
+    carried-refused setMapping _ _ _ 2 (set-mapping-many _ _ _ (multiple (c .before)) (power (c .before)) (omega (arith, c .if3 .taken)))
 
 returns-4 : tie.Need-returns-4
 returns-4 c flags key =

@@ -1,15 +1,12 @@
 -- `frontend::writer::write_get_flags` meets its contract: the test picks the case, and the header is all of the message.
 -- Assumes nothing.
-use Rattle.octets.specs.Prelude.{refl, _<_, arith, length, needs}
-use Rattle.messages.specs.Wire.{headerSize}
+use Rattle.octets.specs.Prelude.{refl, arith, needs}
 use Rattle.guest_messages.proofs.Buffers.{message-short, header-written}
 use Rattle.guest_messages.proofs.writer.write_get_flags.Statement.{statement}
 use Rattle.guest_messages.proofs.writer.write_get_flags.Tie as tie
 
 returns : tie.Need-returns
-returns c =
-    let short : length (c .before .before .args .buffer .now) < headerSize = omega (arith, c .if1 .taken) in
-    message-short _ _ _ _ refl short
+returns c = message-short _ _ _ _ refl (omega (arith, c .if1 .taken))
 
 returns-2 : tie.Need-returns-2
 returns-2 c =

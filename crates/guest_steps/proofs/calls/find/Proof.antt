@@ -1,16 +1,13 @@
 -- `guest_steps::calls::find` meets its contract: its tests are those of `found`, in their order.
 -- Assumes nothing.
-use Rattle.octets.specs.Prelude.{_≡_, _≤_, _<_, arith, length, needs}
+use Rattle.octets.specs.Prelude.{_≡_, _≤_, arith, length, needs}
 use Rattle.page.specs.Page.{pageSize, areaSize}
-use Rattle.guest_steps.specs.Guest.{guestIn}
 use Rattle.guest_steps.proofs.Finds.{found-page, found-requests, found-responses, found-failed, found-counts}
 use Rattle.guest_steps.proofs.calls.find.Statement.{statement}
 use Rattle.guest_steps.proofs.calls.find.Tie as tie
 
 returns : tie.Need-returns
-returns c request header payload =
-    let a = c .before .before .args in
-    found-page (guestIn (a .numbers .now) request header payload) (a .page .now) (λ e. c .if1 .taken (omega (arith, e)))
+returns c request header payload = found-page _ _ (λ e. c .if1 .taken (omega (arith, e)))
 
 -- once the octets that the host has not read are known
 module _ (d : tie.After-host-unread) where
@@ -31,33 +28,27 @@ module _ (d : tie.After-unread) where
 returns-2 : tie.Need-returns-2
 returns-2 c request header payload =
     let d = c .before in
-    let g = guestIn (start d .args .numbers .now) request header payload in
-    let many : areaSize < d .host-unread .result = omega (arith, c .if2 .taken) in
-    found-requests g _ _ (size d) (d .host-unread .ensures) many
+    found-requests _ _ _ (size d) (d .host-unread .ensures) (omega (arith, c .if2 .taken))
 
 returns-3 : tie.Need-returns-3
 returns-3 c request header payload =
     let e = c .before in
     let d = counted e in
-    let g = guestIn (start d .args .numbers .now) request header payload in
-    let many : areaSize < e .unread .result = omega (arith, c .if3 .taken) in
-    found-responses g _ _ (size d) (d .host-unread .ensures) _ (few e) (e .unread .ensures) many
+    found-responses _ _ _ (size d) (d .host-unread .ensures) _ (few e) (e .unread .ensures) (omega (arith, c .if3 .taken))
 
 returns-4 : tie.Need-returns-4
 returns-4 c request header payload =
     let e = c .before .before .before in
     let d = counted e in
-    let g = guestIn (start d .args .numbers .now) request header payload in
     let some : e .unread .result ≤ areaSize = omega (arith, c .before .before .if3 .left) in
-    found-failed g _ _ (size d) (d .host-unread .ensures) _ (few e) (e .unread .ensures) some (c .if4 .taken)
+    found-failed _ _ _ (size d) (d .host-unread .ensures) _ (few e) (e .unread .ensures) some (c .if4 .taken)
 
 returns-5 : tie.Need-returns-5
 returns-5 c request header payload =
     let e = c .before .before .before in
     let d = counted e in
-    let g = guestIn (start d .args .numbers .now) request header payload in
     let some : e .unread .result ≤ areaSize = omega (arith, c .before .before .if3 .left) in
-    found-counts g _ _ (size d) (d .host-unread .ensures) _ (few e) (e .unread .ensures) some (λ f. c .if4 .left f)
+    found-counts _ _ _ (size d) (d .host-unread .ensures) _ (few e) (e .unread .ensures) some (c .if4 .left)
 
 pub find-spec : {M : Type 1} → statement M
 find-spec =

@@ -1,9 +1,8 @@
 -- `guest_steps::seeing::judge` meets its contract: what the reader is handed is the header with the octets of the payload
 -- behind it.
 -- Assumes nothing.
-use Rattle.octets.specs.Prelude.{_≡_, refl, sym, ap, ap₂, _∙_, List, _++_, ℕ, _+_, _-_, _≤_, arith, length, take, replicate}
+use Rattle.octets.specs.Prelude.{_≡_, refl, sym, ap, ap₂, _∙_, List, _++_, ℕ, _+_, _-_, arith, length, take, replicate}
 use Rattle.octets.specs.Prelude.{length-append, needs}
-use borrow.Rule.Slice.PartMut.{putMid}
 use Rattle.messages.specs.Wire.{headerSize}
 use Rattle.guest_steps.specs.Guest.{maxAckPayload}
 use Rattle.guest_messages.specs.Reader.{readAck, ackOutcomeOf}
@@ -25,17 +24,11 @@ module _ (d : tie.After-copy) where
   abbrev header : List ℕ
   header = d .copy .last .0
 
-  header-copied : header ≡ start .args .header .now
-  header-copied = d .copy .ensures
-
   header-long : length header ≡ headerSize
-  header-long = rw header-copied (d .before .copy-arg .given .0)
+  header-long = rw (d .copy .ensures) (d .before .copy-arg .given .0)
 
 part-message-end-2 : tie.Need-part-message-end-2
-part-message-end-2 c =
-    let d = c .before in
-    let within : headerSize + maxAckPayload ≤ length (header d ++ zeros) = omega (arith, header-long d, length-append (header d) zeros) in
-    within
+part-message-end-2 c = omega (arith, header-long (c .before), length-append (header (c .before)) zeros)
 
 -- once the payload has been copied
 module _ (d : tie.After-copy2) where
@@ -45,20 +38,14 @@ module _ (d : tie.After-copy2) where
   abbrev payload : List ℕ
   payload = d .copy2 .last .0
 
-  payload-copied : payload ≡ start first .args .payload .now
-  payload-copied = d .copy2 .ensures
-
   payload-long : length payload ≡ maxAckPayload
-  payload-long = rw payload-copied (d .before .copy-arg2 .given .0)
+  payload-long = rw (d .copy2 .ensures) (d .before .copy-arg2 .given .0)
 
 part-read-ack-end : tie.Need-part-read-ack-end
 part-read-ack-end c =
     let d = c .before .before in
-    let h = header (first d) in
-    let s = start (first d) in
-    let within : headerSize + s .args .size ≤ length (putMid headerSize maxAckPayload (h ++ zeros) (payload d)) =
-    rw (put-together h (payload d) zeros (header-long (first d)) refl, length-append) (omega (arith, header-long (first d), payload-long d, s .pre)) in
-    within
+    rw (put-together (header (first d)) (payload d) zeros (header-long (first d)) refl, length-append)
+    (omega (arith, header-long (first d), payload-long d, start (first d) .pre))
 
 -- once the reader has answered a
 module _ (d : tie.After-read-ack) (a : AckAnswer) (e : d .read-ack .result ≡ a) where
@@ -74,7 +61,7 @@ module _ (d : tie.After-read-ack) (a : AckAnswer) (e : d .read-ack .result ≡ a
       let h = first copied in
       let n = from .args .size in
       let handed = put-part (header h) (payload copied) zeros (header-long h) refl (headerSize + n - 0) n (omega arith) in
-      let given = handed ∙ ap₂ (λ (x y : List ℕ). x ++ take n y) (header-copied h) (payload-copied copied) in
+      let given = handed ∙ ap₂ (λ (x y : List ℕ). x ++ take n y) (h .copy .ensures) (copied .copy2 .ensures) in
       ap judged (ap ackOutcomeOf (sym e) ∙ d .read-ack .ensures ∙ ap (readAck (from .args .kind)) given)
 
 returns : tie.Need-returns
