@@ -85,7 +85,7 @@ set-up-good q =
 -- a setup that is not done is refused
 pub set-up-told : (q : ℕ) → (numberOf (setUpOutcome q) ≡ done → ⊥) → queuesWrong ≡ numberOf (setUpOutcome q)
 set-up-told q =
-    by-setup (λ (x : Outcome HostState). (numberOf x ≡ done → ⊥) → queuesWrong ≡ numberOf x) q (λ _ _ other. absurd (other refl)) (λ _. refl)
+    by-setup (λ (x : Outcome HostState). (numberOf x ≡ done → ⊥) → queuesWrong ≡ numberOf x) q (λ _ _ z. absurd (z refl)) (λ _. refl)
 
 abbrev loaded : List ℕ → Outcome HostState → Outcome Settings
 loaded xs x = andThen x (λ (i : HostState). settingsFrom (i .settings) xs)
