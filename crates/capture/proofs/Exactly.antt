@@ -1,6 +1,6 @@
 -- The records of a capture are exactly those that its octets hold, one after the other behind the capture's header.
 -- Assumes nothing.
-use Rattle.octets.specs.Prelude.{_≡_, refl, sym, ap, subst, _∙_, List, [], _∷_, _++_, Bool, true, false, _↔_, ℕ, zero, suc, _+_}
+use Rattle.octets.specs.Prelude.{_≡_, refl, sym, ap, subst, _∙_, List, [], _∷_, _++_, true, _↔_, ℕ}
 use Rattle.octets.specs.Prelude.{_-_, _≤_, arith, length, take, drop, length-append, length-drop, take-append-drop}
 use Rattle.octets.specs.Prelude.{length-take-le, drop-drop, take-at, drop-at, eqb, eqb-true}
 use Rattle.octets.specs.Outcome.{value}
@@ -11,7 +11,7 @@ use Rattle.capture.specs.Records.{Fall, noRecord, fallWithin, fallOf, al
 use Rattle.capture.specs.declared.Order.{Order}
 use Rattle.capture.proofs.Orders.{number-in-take, number-in-append}
 use Rattle.capture.proofs.Steps.{begins}
-use Rattle.capture.proofs.Falls.{begins-fits, within-next, within-none, fall-next}
+use Rattle.capture.proofs.Falls.{begins-fits, fall-ways, fall-next}
 
 no-octets-left : (xs : List ℕ) → length xs ≡ 0 → xs ≡ []
 no-octets-left [] e = refl
@@ -43,13 +43,8 @@ module _ (o : Order) where
   held-none xs e = rw (no-octets-left xs e) (holdsNone o)
 
   held-within : (n : ℕ) (xs : List ℕ) → Held (fallWithin n o xs) xs
-  unfolding fallWithin
-  held-within zero xs = held-none xs
-  held-within (suc n) xs = by (beginsRecord o xs) refl (held-within n (behindRecord o xs))
-    where
-      by : (t : Bool) → beginsRecord o xs ≡ t → Held (fallWithin n o (behindRecord o xs)) (behindRecord o xs) → Held (fallWithin (suc n) o xs) xs
-      by false e others = rw (within-none o (suc n) xs e) (held-none xs)
-      by true e others = rw (within-next o n xs e) (λ none. held-first xs (fallWithin n o (behindRecord o xs) .records) e (others none))
+  held-within =
+      fall-ways o (λ (xs : List ℕ) (f : Fall). Held f xs) held-none (λ xs f e others none. held-first xs (f .records) e (others none))
 
   -- and records that octets hold are those that are found
   held-found : (rs : List (List ℕ)) (xs : List ℕ) → Holds o rs xs → fallOf o xs ≡ record { records = rs; left = [] }

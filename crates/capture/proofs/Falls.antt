@@ -2,7 +2,7 @@
 -- Assumes nothing.
 use Rattle.octets.specs.Prelude.{_≡_, refl, sym, ap, _∙_, List, true, false, cond, inr, ℕ, zero, suc, _+_, _-_, _≤_, arith}
 use Rattle.octets.specs.Prelude.{length, length-drop, leb-true}
-use Rattle.octets.proofs.Truth.{both-true}
+use Rattle.octets.proofs.Truth.{both-true, by-test}
 use Rattle.capture.specs.Records.{recordHeader, maxRecord, capturedLength, beginsRecord, firstRecord, behindRecord}
 use Rattle.capture.specs.Records.{Fall, noRecord, oneMore, fallWithin, fallOf}
 use Rattle.capture.specs.declared.Order.{Order}
@@ -17,16 +17,20 @@ begins-fits o xs e =
     (leb-true _ _ (both .0), leb-true _ _ (both .1))
 
 module _ (o : Order) where
-  -- one step, where a good record stands and where none does
-  pub within-next : (n : ℕ) (xs : List ℕ) → beginsRecord o xs ≡ true
-      → fallWithin (suc n) o xs ≡ oneMore (firstRecord o xs) (fallWithin n o (behindRecord o xs))
-  unfolding fallWithin
-  within-next n xs e = rw e refl
-
-  pub within-none : (n : ℕ) (xs : List ℕ) → beginsRecord o xs ≡ false → fallWithin n o xs ≡ noRecord xs
+  -- one step where no good record stands
+  within-none : (n : ℕ) (xs : List ℕ) → beginsRecord o xs ≡ false → fallWithin n o xs ≡ noRecord xs
   unfolding fallWithin
   within-none zero xs e = refl
   within-none (suc n) xs e = rw e refl
+
+  -- what holds of octets with no record, and of a record more, holds of what octets fall into
+  pub fall-ways : (P : List ℕ → Fall → Type 0) → ((xs : List ℕ) → P xs (noRecord xs))
+      → ((xs : List ℕ) (f : Fall) → beginsRecord o xs ≡ true → P (behindRecord o xs) f → P xs (oneMore (firstRecord o xs) f))
+      → (n : ℕ) (xs : List ℕ) → P xs (fallWithin n o xs)
+  unfolding fallWithin
+  fall-ways P none more zero xs = none xs
+  fall-ways P none more (suc n) xs =
+      by-test (P xs) (beginsRecord o xs) _ _ (λ e. more xs _ e (fall-ways P none more n (behindRecord o xs))) (λ e. none xs)
 
   pub no-octets : (xs : List ℕ) → length xs ≤ 0 → beginsRecord o xs ≡ false
   no-octets xs h = begins-not o xs (capturedLength o xs) refl (inr (omega arith))
@@ -43,13 +47,14 @@ module _ (o : Order) where
       ap (λ (f : Fall). cond (beginsRecord o xs) (oneMore (firstRecord o xs) f) (noRecord xs)) further
 
   pub fall-next : (xs : List ℕ) → beginsRecord o xs ≡ true → fallOf o xs ≡ oneMore (firstRecord o xs) (fallOf o (behindRecord o xs))
+  unfolding fallWithin
   fall-next xs e =
-      let f = begins-fits o xs e .1 in
+      let fits = begins-fits o xs e .1 in
       let n : ℕ = length xs - 1 in
-      let size = recordHeader + capturedLength o xs in
-      let less : length (behindRecord o xs) ≡ length xs - size = length-drop size xs in
+      let less = length-drop (recordHeader + capturedLength o xs) xs in
       let enough = within-enough n (length (behindRecord o xs)) (behindRecord o xs) (omega (arith, less)) (omega arith) in
-      ap (λ (k : ℕ). fallWithin k o xs) (omega (arith, f)) ∙ within-next n xs e ∙ ap (oneMore (firstRecord o xs)) enough
+      let long : length xs ≡ suc n = omega (arith, fits) in
+      ap (λ (k : ℕ). fallWithin k o xs) long ∙ rw e (ap (oneMore (firstRecord o xs)) enough)
 
   pub fall-none : (xs : List ℕ) → beginsRecord o xs ≡ false → fallOf o xs ≡ noRecord xs
   fall-none xs e = within-none (length xs) xs e

@@ -15,7 +15,7 @@ use Rattle.ring.proofs.Turns.{parts}
 use Rattle.ring.proofs.Sides.{less-advanced}
 use Rattle.page.proofs.Untouched.{guest-counted-length, guest-counted-others}
 use Rattle.interface.specs.States.{Good as GoodHost}
-use Rattle.guest_messages.specs.Reader.{Reading, answerTo, readAck}
+use Rattle.guest_messages.specs.Reader.{answerTo, readAck}
 use Rattle.guest_steps.specs.Guest.{idle, acked, incoming, owes, Good as GoodGuest}
 use Rattle.guest_steps.specs.Calls.{After, unreadRequests, unreadAcks, answeredWith, judged, seen, doneWith, concluded, readOn, eventOf}
 use Rattle.guest_steps.specs.Guest.{GuestState}
@@ -31,14 +31,6 @@ ack-read s m =
     let t = typeIn m in
     let p = payloadIn m ++ [] in
     reader-accepts-ack s t (sizeIn m) p ∙ ap (λ (st : ℕ). value (answerTo (requestOf t) st)) (sym (ack-carries-status s t (sizeIn m) p))
-
--- an ack read whole and accepted
-concluded-ack : (g : GuestState) (page : List ℕ) (n : ℕ) (r : Reading)
-    → seen (typeIn (g .request)) (receivedFrom responsesAt page (incoming g) n .message) ≡ judged (value r)
-    → readOn g page n
-    ≡ answeredWith (acked r) (doneWith g (receivedFrom responsesAt page (incoming g) n .message) idle (receivedFrom responsesAt page (incoming g) n .cons)) page
-unfolding readOn concluded
-concluded-ack g page n r e = rw e refl
 
 -- the ack to the request m, under settings s, once it stands before the guest
 module _ (s : Settings) (m : List ℕ) (e : Ends) (long : length m ≡ messageLength m) where
@@ -93,12 +85,12 @@ module _ (s : Settings) (m : List ℕ) (e : Ends) (long : length m ≡ messageLe
 
     -- so the ack is accepted
     collects : eventOf g (e .page) ≡ answeredWith (acked (answerOf s m)) (doneWith g read idle (e .host .outgoing .prod)) (e .page)
+    unfolding readOn concluded
     collects =
         let a = answered .guest in
-        let said = ack-seen (typeIn m) ack (g .header) (g .payload) (a .header) (a .payload) (shape .long) (shape .sized) (shape .most) in
-        event
-        ∙ concluded-ack g (e .page) (length ack) (answerOf s m) (ap₂ seen type message ∙ said ∙ ap judged (ack-read s m))
-        ∙ ap₂ (λ (i : Message) (c : ℕ). answeredWith (acked (answerOf s m)) (doneWith g i idle c) (e .page)) message cons
+        let said : seen (typeIn (g .request)) read ≡ judged (value (answerOf s m)) =
+        rw type (ack-seen (typeIn m) ack (g .header) (g .payload) (a .header) (a .payload) shape ∙ ap judged (ack-read s m)) in
+        event ∙ rw (message, cons, said) refl
 
     -- what the guest is told
     pub told-answer : guestEvent e .answer ≡ acked (answerOf s m)

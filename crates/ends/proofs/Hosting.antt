@@ -1,14 +1,15 @@
 -- The host's turn: it reads on, or it carries the request out and writes the whole ack.
 -- Assumes nothing.
-use Rattle.octets.specs.Prelude.{_≡_, refl, sym, ap, ap₂, subst, _∙_, List, [], _++_, Bool, true, false, ℕ, _+_, _-_, _^_, _≤_}
+use Rattle.octets.specs.Prelude.{_≡_, refl, sym, ap, ap₂, subst, _∙_, List, [], _++_, true, false, ℕ, _+_, _-_, _≤_}
 use Rattle.octets.specs.Prelude.{_<_, arith, length, take, drop, length-take-le, take-all, take-add, ltb, eq-eqb, le-leb, lt-leb}
 use Rattle.octets.specs.Prelude.{le-ltb, ltb-true, ltb-false}
 use mathlib.Core.Path.{subst₂}
+use Rattle.octets.proofs.Truth.{by-test}
 use Rattle.messages.specs.Wire.{headerSize, typeIn, sizeIn}
-use Rattle.messages.specs.Requests.{maxAck, ackIn, carriedMessage}
+use Rattle.messages.specs.Requests.{ackIn, carriedMessage}
 use Rattle.messages.specs.Requests.{Carried}
 use Rattle.messages.proofs.Theorems.{ack-fits}
-use Rattle.page.specs.Page.{pageSize, areaSize, reqConsAt, rspProdAt, requestsAt, responsesAt, countIn, less, advanced, octetsIn, put}
+use Rattle.page.specs.Page.{pageSize, areaSize, requestsAt, responsesAt, less, advanced, octetsIn, put}
 use Rattle.ring.specs.Reading.{messageLength, whole, received, receivedFrom}
 use Rattle.ring.specs.Writing.{fitting, sentOctets}
 use Rattle.ring.specs.Streams.{beginsWhole, presentPart, Holding}
@@ -24,21 +25,17 @@ use Rattle.interface.specs.States.{HostState}
 use Rattle.backend.proofs.Stages.{carried-held}
 use Rattle.backend.proofs.Theorems.{carried-out}
 use Rattle.ends.specs.Ends.{Ends, hostTurn}
-use Rattle.ends.proofs.Points.{Asking, Ready, Sent, Answered}
+use Rattle.ends.proofs.Points.{Ready, Sent, Answered}
 
 module _ (m : List ℕ) (long : length m ≡ messageLength m) where
   -- the first octets of a message, but not all, are no whole message
   front-waits : (n : ℕ) → n < length m → beginsWhole (take n m) ≡ false
-  front-waits n some = by (ltb n headerSize) refl
-    where
-      size : length (take n m) ≡ n
-      size = length-take-le n m (omega arith)
-
-      by : (b : Bool) → ltb n headerSize ≡ b → beginsWhole (take n m) ≡ false
-      by true t = lt-leb (messageLength (take n m)) (length (take n m)) (omega (arith, size, ltb-true n headerSize t))
-      by false t =
-          let same : sizeIn (take n m) ≡ sizeIn m = size-front n m (ltb-false n headerSize t) in
-          lt-leb (messageLength (take n m)) (length (take n m)) (omega (arith, size))
+  front-waits n some =
+      let size : length (take n m) ≡ n = length-take-le n m (omega arith) in
+      let waits = lt-leb (messageLength (take n m)) (length (take n m)) in
+      by-test (λ (_ : ℕ). beginsWhole (take n m) ≡ false) (ltb n headerSize) 0 0
+      (λ t. let short = ltb-true n headerSize t in waits (omega arith))
+      (λ t. let same : sizeIn (take n m) ≡ sizeIn m = size-front n m (ltb-false n headerSize t) in waits (omega arith))
 
   -- all of them are
   all-whole : beginsWhole m ≡ true
@@ -46,13 +43,10 @@ module _ (m : List ℕ) (long : length m ≡ messageLength m) where
 
   -- so the first octets are all read
   front-present : (n : ℕ) → n ≤ length m → presentPart (take n m) ≡ take n m
-  front-present n within = by (ltb n (length m)) refl
-    where
-      by : (b : Bool) → ltb n (length m) ≡ b → presentPart (take n m) ≡ take n m
-      by true t = part-all (take n m) (front-waits n (ltb-true n (length m) t))
-      by false t =
-          let same : take n m ≡ m = take-all n m (ltb-false n (length m) t) in
-          rw same (part-whole m all-whole ∙ take-all (messageLength m) m (omega arith))
+  front-present n within =
+      by-test (λ (_ : ℕ). presentPart (take n m) ≡ take n m) (ltb n (length m)) 0 0
+      (λ t. part-all (take n m) (front-waits n (ltb-true n (length m) t)))
+      (λ t. rw (take-all n m (ltb-false n (length m) t)) (part-whole m all-whole ∙ take-all (messageLength m) m (omega arith)))
 
 -- an event at which the message does not become whole
 event-waits : (s : HostState) (page : List ℕ) → Accepted s page → owes s ≡ false → whole (afterReading s page .incoming .message) ≡ false
@@ -60,52 +54,6 @@ event-waits : (s : HostState) (page : List ℕ) → Accepted s page → owes s �
 unfolding eventOf proceeded afterRead
 event-waits s page ok idle waits =
     rw (eq-eqb _ _ (ok .size), le-leb _ _ (ok .requests), le-leb _ _ (ok .responses), idle, waits) refl
-
--- a message carried out, and its whole ack written
-record Replied (t : HostState) (c : Carried) (a : After) : Type 0 where
-  settings : a .state .settings ≡ c .settings
-  no-ack : owes (a .state) ≡ false
-  nothing-read : a .state .incoming .message .taken ≡ 0
-  cons : a .state .incoming .cons ≡ t .incoming .cons
-  prod : a .state .outgoing .prod ≡ advanced (t .outgoing .prod) (length (ackIn c))
-  size : length (a .page) ≡ pageSize
-  req-cons : countIn (a .page) reqConsAt ≡ t .incoming .cons
-  rsp-prod : countIn (a .page) rspProdAt ≡ a .state .outgoing .prod
-  octets : octetsIn responsesAt (a .page) (t .outgoing .prod) (length (ackIn c)) ≡ ackIn c
-
-replies : (t : HostState) (page : List ℕ) (space : ℕ) → maxAck ≤ space → length page ≡ pageSize → t .incoming .cons < 2 ^ 32
-    → Replied t (carriedIn t) (responded (carriedOver t) page space)
-unfolding responded carriedOver
-replies t page space enough size small =
-    let m = t .incoming .message in
-    let c = carriedIn t in
-    let ack = ackIn c in
-    let p = t .outgoing .prod in
-    let fits = ack-fits (t .settings) (typeIn (m .header)) (sizeIn (m .header)) (m .payload) in
-    let long : length ack ≡ c .ack .length = length-take-le (c .ack .length) (c .ack .octets) (omega arith) in
-    let o : Outgoing = record { octets = c .ack .octets; length = c .ack .length; written = 0; prod = p } in
-    let k = fitting o space in
-    let count : k ≡ c .ack .length = omega arith in
-    let next = advanced p k in
-    let xs = sentOctets o k in
-    let all : xs ≡ ack = ap (λ (j : ℕ). take j (c .ack .octets)) count in
-    let into = put responsesAt page p xs in
-    let same : length into ≡ pageSize = put-length responsesAt xs page p ∙ size in
-    record {
-      settings = refl;
-      no-ack = le-ltb (0 + k) (c .ack .length) (omega arith);
-      nothing-read = refl;
-      cons = refl;
-      prod = ap (advanced p) (count ∙ sym long);
-      size = counted-length into (t .incoming .cons) next ∙ same;
-      req-cons = counted-cons into (t .incoming .cons) next (omega arith) small;
-      rsp-prod = counted-prod into (t .incoming .cons) next (omega arith) (omega arith);
-      octets =
-          counted-octets responsesAt into (t .incoming .cons) next (length ack) p (omega arith)
-          ∙ ap (λ (l : List ℕ). octetsIn responsesAt into p (length l)) (sym all)
-          ∙ put-stands responsesAt xs page p (rw all (omega arith)) (omega arith)
-          ∙ all;
-    }
 
 module _ (m : List ℕ) (r n : ℕ) (e : Ends) (sent : Sent m r n e) (long : length m ≡ messageLength m) where
   module _ (first : r < length m) (more : r ≤ n) (within : n ≤ length m) (few : n - r ≤ areaSize) where
@@ -168,29 +116,51 @@ module _ (m : List ℕ) (r n : ℕ) (e : Ends) (sent : Sent m r n e) (long : len
           refl,
         )
 
+    -- carried out, its whole ack is written
+    replies : n ≡ length m → let a = responded (carriedOver t) (e .page) (room h (e .page)) in
+        Answered m (ackIn (carriedIn t)) (record { guest = e .guest; host = a .state; page = a .page })
+        × (a .state .settings ≡ carriedIn t .settings)
+    unfolding responded carriedOver readIn
+    replies all =
+        let i = t .incoming .message in
+        let ack = carriedIn t .ack in
+        let p = t .outgoing .prod in
+        let cons = t .incoming .cons in
+        let fits = ack-fits (t .settings) (typeIn (i .header)) (sizeIn (i .header)) (i .payload) in
+        let long : length (ackIn (carriedIn t)) ≡ ack .length = length-take-le (ack .length) (ack .octets) (omega arith) in
+        let o : Outgoing = record { octets = ack .octets; length = ack .length; written = 0; prod = p } in
+        let k = fitting o (room h (e .page)) in
+        let count : k ≡ ack .length = omega (arith, room-found) in
+        let whole : sentOctets o k ≡ ackIn (carriedIn t) = ap (λ (j : ℕ). take j (ack .octets)) count in
+        let into = put responsesAt (e .page) p (sentOctets o k) in
+        let next = advanced p k in
+        let same : length into ≡ pageSize = put-length responsesAt (sentOctets o k) (e .page) p ∙ sent .size in (
+          record {
+            guest = rw all at (sent .guest);
+            size = counted-length into cons next ∙ same;
+            no-ack = le-ltb (0 + k) (ack .length) (omega arith);
+            nothing-read = refl;
+            requests = counts;
+            responses = ap₂ advanced (sent .responses) (count ∙ sym long);
+            req-cons = counted-cons into cons next (omega arith) (rw counts (sent .guest .prod)) ∙ counts;
+            rsp-prod = counted-prod into cons next (omega arith) (omega arith);
+            octets =
+                counted-octets responsesAt into cons next (length (ackIn (carriedIn t))) (e .guest .«rsp_cons») (omega arith)
+                ∙ ap₂ (λ (c : ℕ) (l : List ℕ). octetsIn responsesAt into c (length l)) (sym (sent .responses)) (sym whole)
+                ∙ put-stands responsesAt (sentOctets o k) (e .page) p (rw whole (omega arith)) (omega (arith, sent .size))
+                ∙ whole;
+          },
+          refl,
+        )
+
     -- all of it is read: it is carried out
     pub carries-out : n ≡ length m → Answered m (ackIn (carriedMessage (h .settings) m [])) (hostTurn e)
         × (hostTurn e .host .settings ≡ carriedMessage (h .settings) m [] .settings)
     unfolding readIn
     carries-out all =
-        let held : Holding (t .incoming .message) m = subst (Holding (t .incoming .message)) (take-all n m (omega arith)) holds in
+        let held : Holding (t .incoming .message) m = rw (take-all n m (omega arith)) at holds in
         let becomes : BecomesWhole h (e .page) =
         record { accepted = accepted; idle = sent .no-ack; all = holding-whole (t .incoming .message) m held ∙ all-whole m long } in
-        let c = carriedMessage (h .settings) m [] in
-        let done : carriedIn t ≡ c = carried-held (h .settings) (t .incoming .message) m held long in
-        let x = replies t (e .page) (room h (e .page)) (rw room-found (omega arith)) (sent .size) (rw counts (sent .guest .prod)) in
-        let left : Replied t c (eventOf h (e .page)) = subst₂ (Replied t) done (sym (carried-out h (e .page) becomes)) x in (
-          record {
-            guest = subst (λ (k : ℕ). Asking m k (e .guest)) all (sent .guest);
-            size = left .size;
-            no-ack = left .no-ack;
-            nothing-read = left .nothing-read;
-            requests = left .cons ∙ counts;
-            responses = left .prod ∙ ap (λ (p : ℕ). advanced p (length (ackIn c))) (sent .responses);
-            req-cons = left .req-cons ∙ counts;
-            rsp-prod = left .rsp-prod;
-            octets =
-                ap (λ (p : ℕ). octetsIn responsesAt (eventOf h (e .page) .page) p (length (ackIn c))) (sym (sent .responses)) ∙ left .octets;
-          },
-          left .settings,
-        )
+        subst₂ (λ (c : Carried) (a : After). Answered m (ackIn c) (record { guest = e .guest; host = a .state; page = a .page })
+        × (a .state .settings ≡ c .settings))
+        (carried-held (h .settings) (t .incoming .message) m held long) (sym (carried-out h (e .page) becomes)) (replies all)

@@ -1,17 +1,18 @@
 -- Messages of the writer, and acks, as whole messages that are read.
 -- Assumes nothing.
-use Rattle.octets.specs.Prelude.{_≡_, refl, sym, ap, ap₂, _∙_, List, [], _++_, Bool, true, false, cond, _||_, ℕ, _+_, _-_, _^_}
+use Rattle.octets.specs.Prelude.{_≡_, refl, sym, ap, ap₂, _∙_, List, [], _++_, true, false, _||_, ℕ, _+_, _-_, _^_}
 use Rattle.octets.specs.Prelude.{_≤_, _<_, zero-add, arith, length, take, drop, length-append, length-drop, take-append-drop}
 use Rattle.octets.specs.Prelude.{sets, sets-eq, length-take-le, take-at, eqb, leb, le-leb}
 use Rattle.octets.specs.Numbers.{octetsOf}
 use Rattle.octets.specs.Outcome.{Outcome, value}
+use Rattle.octets.proofs.Truth.{by-test}
 use Rattle.octets.proofs.Outcomes.{value-same, test-value}
 use Rattle.octets.proofs.Copies.{sets-all}
 use Rattle.octets.proofs.Numbers.{length-octets}
 use Rattle.toeplitz.specs.Hash.{keyLength}
 use Rattle.messages.specs.Wire.{headerSize, fieldSize, message, sizeIn, ackType, getFlagsType, setFlagsType, setKeyType, setMappingType, allFlags, success}
 use Rattle.messages.specs.Settings.{isListed}
-use Rattle.messages.specs.Requests.{Request, requestOf, statusOf, carriesFlags, statusPayload, flagsPayload, ackPayload, ackIn, carriedOut}
+use Rattle.messages.specs.Requests.{Request, requestOf, statusOf, carriesFlags, ackPayload, ackIn, carriedOut}
 use Rattle.messages.specs.Settings.{Settings}
 use Rattle.messages.proofs.Parts.{message-is, length-message, size-header}
 use Rattle.messages.proofs.AckOctets.{payload-short}
@@ -69,41 +70,37 @@ received-message xs h p size long =
     ∙ received-payload back (parts front p headerSize) (omega arith) (omega arith)
     ∙ ap (parts front (sets p 0 back)) all
 
--- an ack of one of the two sizes, read whole by a guest, is judged by the reader
-pub ack-seen : (t : ℕ) (xs h p : List ℕ) → length h ≡ headerSize → length p ≡ maxAckPayload → length xs ≡ messageLength xs
-    → (eqb (sizeIn xs) fieldSize || eqb (sizeIn xs) (fieldSize + fieldSize)) ≡ true → length xs ≤ headerSize + maxAckPayload
+-- an ack of one of the two sizes, as the list of its octets
+pub record Ack (xs : List ℕ) : Type 0 where
+  pub long : length xs ≡ messageLength xs
+  pub sized : (eqb (sizeIn xs) fieldSize || eqb (sizeIn xs) (fieldSize + fieldSize)) ≡ true
+  pub most : length xs ≤ headerSize + maxAckPayload
+
+-- read whole by a guest, it is judged by the reader
+pub ack-seen : (t : ℕ) (xs h p : List ℕ) → length h ≡ headerSize → length p ≡ maxAckPayload → Ack xs
     → seen t (received xs (parts h p 0)) ≡ judged (readAck t xs)
 unfolding seen
-ack-seen t xs h p size kept long sized most =
+ack-seen t xs h p size kept ack =
     let front = take headerSize xs in
     let back = drop headerSize xs in
     let read = parts front (sets p 0 back) (length xs) in
     let same : sizeIn front ≡ sizeIn xs = size-take xs in
     let left : length back ≡ sizeIn xs = length-drop headerSize xs ∙ omega arith in
-    let good : sizeWrong read ≡ false = rw (same, sized, le-leb headerSize (length xs) (omega arith)) refl in
+    let good : sizeWrong read ≡ false = rw (same, ack .sized, le-leb headerSize (length xs) (omega arith)) refl in
     let all : whole read ≡ true = le-leb (messageLength front) (length xs) (omega arith) in
     let stored : sets p 0 back ≡ back ++ drop (0 + length back) p = sets-eq back p 0 (omega arith) in
     let octets : messageOctets read ≡ xs =
     ap (λ (l : List ℕ). front ++ l) (ap₂ take same stored ∙ take-at back (drop (0 + length back) p) (sizeIn xs) left)
     ∙ take-append-drop headerSize xs in
-    rw (received-message xs h p size long, good, all, octets) refl
+    rw (received-message xs h p size (ack .long), good, all, octets) refl
 
 -- the acks are of these sizes
 payload-sizes : (r : Request) (st : ℕ)
     → (eqb (length (ackPayload r st)) fieldSize || eqb (length (ackPayload r st)) (fieldSize + fieldSize)) ≡ true
-payload-sizes r st = by (carriesFlags r st)
-  where
-    by : (b : Bool) → (eqb (length (cond b (flagsPayload allFlags) (statusPayload st))) fieldSize
-        || eqb (length (cond b (flagsPayload allFlags) (statusPayload st))) (fieldSize + fieldSize))
-        ≡ true
-    by true = rw (length-append, length-octets fieldSize success, length-octets fieldSize allFlags) refl
-    by false = rw (length-octets fieldSize st) refl
-
--- an ack, as the list of its octets
-pub record Ack (xs : List ℕ) : Type 0 where
-  pub long : length xs ≡ messageLength xs
-  pub sized : (eqb (sizeIn xs) fieldSize || eqb (sizeIn xs) (fieldSize + fieldSize)) ≡ true
-  pub most : length xs ≤ headerSize + maxAckPayload
+payload-sizes r st =
+    by-test (λ (p : List ℕ). (eqb (length p) fieldSize || eqb (length p) (fieldSize + fieldSize)) ≡ true) (carriesFlags r st) _ _
+    (λ _. rw (length-append, length-octets fieldSize success, length-octets fieldSize allFlags) refl)
+    (λ _. rw (length-octets fieldSize st) refl)
 
 pub ack-made : (s : Settings) (t n : ℕ) (p : List ℕ) → Ack (ackIn (carriedOut s t n p))
 ack-made s t n p =

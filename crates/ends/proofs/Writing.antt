@@ -1,6 +1,6 @@
 -- What the guest finds on the page, and a request that it writes.
 -- Assumes nothing.
-use Rattle.octets.specs.Prelude.{_≡_, refl, sym, ap, ap₂, subst, _∙_, List, _++_, true, false, ℕ, _+_, _-_, _≤_, _<_, min, arith}
+use Rattle.octets.specs.Prelude.{_≡_, refl, sym, ap, ap₂, subst, _∙_, List, true, false, ℕ, _+_, _-_, _≤_, _<_, min, arith}
 use Rattle.octets.specs.Prelude.{length, take, drop, length-drop, length-take-le, take-append-le, drop-append-le, eqb, eq-eqb}
 use Rattle.octets.specs.Prelude.{le-leb, lt-ltb, le-ltb}
 use Rattle.octets.specs.Outcome.{value}
@@ -43,11 +43,6 @@ module _ (g : GuestState) (page : List ℕ) where
   unfolding eventBy
   event-reads n asks done finds = rw (finds, asks, done) refl
 
--- octets of a message with more behind it
-part-octets : (k n : ℕ) (m rest octets : List ℕ) → octets ≡ m ++ rest → n + k ≤ length m → take k (drop n octets) ≡ take k (drop n m)
-part-octets k n m rest octets e h =
-    rw (e, drop-append-le n m rest (omega arith)) (take-append-le k (drop n m) rest (omega (arith, length-drop n m)))
-
 -- octets of the request written, up to the n′-th, into the whole area
 module _ (m : List ℕ) (n n′ : ℕ) (e : Ends) (ready : Ready m n e) (within : n ≤ length m) (reach : n′ ≡ min (n + areaSize) (length m)) where
   abbrev g : GuestState
@@ -60,7 +55,8 @@ module _ (m : List ℕ) (n n′ : ℕ) (e : Ends) (ready : Ready m n e) (within 
   octets : sentOctets (outgoing g) (fitting (outgoing g) areaSize) ≡ take (n′ - n) (drop n m)
   octets =
       ap₂ (λ (i j : ℕ). take i (drop j (g .request))) count (ready .guest .written)
-      ∙ part-octets (n′ - n) n m (ready .guest .rest) (g .request) (ready .guest .request) (omega arith)
+      ∙ rw (ready .guest .request, drop-append-le n m (ready .guest .rest) within)
+      (take-append-le (n′ - n) (drop n m) (ready .guest .rest) (omega (arith, length-drop n m)))
 
   -- they then stand before the host
   wrote : Sent m n n′ (afterGuest e (wroteOn g (e .page) areaSize))

@@ -5,44 +5,39 @@ use Rattle.octets.specs.Prelude.{length}
 use Rattle.capture.specs.Records.{capturedOctets}
 use Rattle.report.specs.Counting.{those, rising}
 
-module _ (test : List ℕ → Bool) where
+-- a size of records that is the sum of what each weighs
+pub record Adds (weight : List ℕ → ℕ) (size : List (List ℕ) → ℕ) : Type 0 where
+  pub none : size [] ≡ 0
+  pub one : (r : List ℕ) (rs : List (List ℕ)) → size (r ∷ rs) ≡ weight r + size rs
+
+-- so are the number of the records, and that of their octets
+pub packets-add : Adds (λ (r : List ℕ). 1) length
+packets-add = record { none = refl; one = λ r rs. omega arith }
+
+pub octets-add : Adds length capturedOctets
+unfolding capturedOctets
+octets-add = record { none = refl; one = λ r rs. refl }
+
+module _ {weight : List ℕ → ℕ} {size : List (List ℕ) → ℕ} (adds : Adds weight size) (test : List ℕ → Bool) where
+  pub those-none : size (those test []) ≡ 0
+  unfolding those
+  those-none = adds .none
+
   -- a record more, where the test passes it
-  pub those-one : (r : List ℕ) (rs : List (List ℕ)) → length (those test (r ∷ rs)) ≡ cond (test r) 1 0 + length (those test rs)
+  pub those-one : (r : List ℕ) (rs : List (List ℕ)) → size (those test (r ∷ rs)) ≡ cond (test r) (weight r) 0 + size (those test rs)
   unfolding those
   those-one r rs = by (test r)
     where
-      by : (t : Bool) → length (cond t (r ∷ those test rs) (those test rs)) ≡ cond t 1 0 + length (those test rs)
-      by true = omega arith
+      by : (t : Bool) → size (cond t (r ∷ those test rs) (those test rs)) ≡ cond t (weight r) 0 + size (those test rs)
+      by true = adds .one r (those test rs)
       by false = omega arith
-
-  pub those-octets : (r : List ℕ) (rs : List (List ℕ))
-      → capturedOctets (those test (r ∷ rs)) ≡ cond (test r) (length r) 0 + capturedOctets (those test rs)
-  unfolding those capturedOctets
-  those-octets r rs = by (test r)
-    where
-      by : (t : Bool) → capturedOctets (cond t (r ∷ those test rs) (those test rs)) ≡ cond t (length r) 0 + capturedOctets (those test rs)
-      by true = refl
-      by false = omega arith
-
-  pub those-none : (length (those test []) ≡ 0) × (capturedOctets (those test []) ≡ 0)
-  unfolding those capturedOctets
-  those-none = (refl, refl)
 
   -- no more than there are
-  pub those-fewer : (rs : List (List ℕ)) → length (those test rs) ≤ length rs
-  those-fewer [] = omega (arith, those-none .0)
-  those-fewer (r ∷ rs) = omega (arith, those-one r rs, bit (test r), those-fewer rs)
+  pub those-less : (rs : List (List ℕ)) → size (those test rs) ≤ size rs
+  those-less [] = omega (arith, those-none, adds .none)
+  those-less (r ∷ rs) = omega (arith, those-one r rs, part (test r), adds .one r rs, those-less rs)
     where
-      bit : (t : Bool) → cond t 1 0 ≤ 1
-      bit true = omega arith
-      bit false = omega arith
-
-  pub those-less : (rs : List (List ℕ)) → capturedOctets (those test rs) ≤ capturedOctets rs
-  unfolding capturedOctets
-  those-less [] = omega (arith, those-none .1)
-  those-less (r ∷ rs) = omega (arith, those-octets r rs, part (test r), those-less rs)
-    where
-      part : (t : Bool) → cond t (length r) 0 ≤ length r
+      part : (t : Bool) → cond t (weight r) 0 ≤ weight r
       part true = omega arith
       part false = omega arith
 

@@ -2,10 +2,10 @@
 -- these say what that means.
 -- Assumes nothing.
 use Rattle.octets.specs.Prelude.{_≡_, refl, sym, ap, _∙_, List, [], _∷_, _++_, Bool, true, false, cond, _&&_, false≢true, ℕ, _+_}
-use Rattle.octets.specs.Prelude.{_-_, _≤_, _<_, arith, length, take, replicate, length-append, length-drop, take-append-le, eqb}
+use Rattle.octets.specs.Prelude.{_≤_, arith, length, take, replicate, length-append, length-drop, take-append-le, eqb}
 use Rattle.octets.specs.Prelude.{leb, leb-true, eq-eqb}
 use Rattle.octets.specs.Outcome.{Outcome, value, refused, andThen}
-use Rattle.octets.proofs.Truth.{both-true}
+use Rattle.octets.proofs.Truth.{both-true, by-test}
 use Rattle.octets.proofs.Outcomes.{value-same, value-not-refused, test-value}
 use Rattle.toeplitz.specs.Hash.{keyLength}
 use Rattle.messages.specs.Wire.{headerSize, typeIn, sizeIn, payloadIn}
@@ -27,7 +27,7 @@ use Rattle.capture.specs.declared.Link.the-variants.{Ethernet}
 use Rattle.settings_file.specs.Loading.{settingsWrong, allSucceed, settingsFrom, settingsOutcome}
 use Rattle.report.specs.Counting.{tallyOf, choiceFor, isUnhashed, unhashedOf, onQueue, Counted, countedOver, sumOf}
 use Rattle.report.specs.Reports.{fileTooLong, maxFile, reportOver, reportUnder, reportOn}
-use Rattle.report.proofs.Tallies.{those-one, those-none}
+use Rattle.report.proofs.Tallies.{packets-add, those-one, those-none}
 use Rattle.report.proofs.Sums.{tallies-sum}
 
 -- what a report is made of: the settings of the file, and the link and all records of the capture
@@ -73,38 +73,29 @@ good-carried s m good long =
     let p = payloadIn m in
     let n : ℕ = sizeIn m in
     let zeros : List ℕ = replicate keyLength 0 in
-    let left : length p ≡ length m - headerSize = length-drop headerSize m in
-    let size : length p ≡ n = omega (arith, left, long) in
+    let size : length p ≡ n = length-drop headerSize m ∙ omega arith in
     let same : take n (p ++ zeros) ≡ take n (p ++ []) =
-    take-append-le n p zeros (omega (arith, size)) ∙ sym (take-append-le n p [] (omega (arith, size))) in
-    let carried = header-bounds-payload s (typeIn m) n (p ++ zeros) (p ++ []) same in
-    let forty : length zeros ≡ keyLength = refl in
-    let enough = length-append p zeros in
-    rw (← carried) (good-stays-good s (typeIn m) n (p ++ zeros) good (omega (arith, enough, forty)))
+    take-append-le n p zeros (omega arith) ∙ sym (take-append-le n p [] (omega arith)) in
+    rw (← header-bounds-payload s (typeIn m) n (p ++ zeros) (p ++ []) same)
+    (good-stays-good s (typeIn m) n (p ++ zeros) good (simp length-append (omega arith)))
 
 good-after : (s : Settings) (ms : List (List ℕ)) → Messages ms → Good s → Good (settingsAfter s ms)
 unfolding settingsAfter
 good-after s ms none good = good
 good-after s ms (more m others long whole) good = good-after (carriedMessage s m [] .settings) others whole (good-carried s m good long)
 
-set-up-value : (q : ℕ) (i : HostState) → setUpOutcome q ≡ value i → (1 ≤ q) × (q ≤ maxQueues) × (i ≡ interfaceAtSetup q)
-unfolding setUpOutcome
-set-up-value q i e =
-    let x = test-value (leb 1 q && leb q maxQueues) (interfaceAtSetup q) i queuesWrong e in
-    let both = both-true (leb 1 q) (leb q maxQueues) .0 (x .0) in
-    (leb-true 1 q (both .0), leb-true q maxQueues (both .1), sym (x .1))
-
 -- the settings of a file are those of a host that was set up with its queue count and has read its messages
 pub settings-as-host : (q : ℕ) (xs : List ℕ) (s : Settings) → settingsOutcome (q ∷ xs) ≡ value s
     → (1 ≤ q) × (q ≤ maxQueues) × (s ≡ settingsAfter (settingsAtSetup q) (messagesIn xs))
-unfolding settingsOutcome settingsFrom
+unfolding settingsOutcome settingsFrom setUpOutcome
 settings-as-host q xs s e =
     let made = then-value (setUpOutcome q) (λ (i : HostState). settingsFrom (i .settings) xs) s e in
-    let bounds = set-up-value q (made .0) (made .1) in
+    let up = test-value (leb 1 q && leb q maxQueues) (interfaceAtSetup q) (made .0) queuesWrong (made .1) in
+    let both = both-true (leb 1 q) (leb q maxQueues) .0 (up .0) in
     let after = settingsAfter (made .0 .settings) (messagesIn xs) in
     let passes = eqb (length (restOf xs)) 0 && allSucceed (made .0 .settings) (messagesIn xs) in
     let is = test-value passes after s settingsWrong (made .2) .1 in
-    (bounds .0, bounds .1, sym is ∙ ap (λ (i : HostState). settingsAfter (i .settings) (messagesIn xs)) (bounds .2))
+    (leb-true _ _ (both .0), leb-true _ _ (both .1), sym (ap (λ (i : HostState). settingsAfter (i .settings) (messagesIn xs)) (up .1) ∙ is))
 
 pub settings-served : (q : ℕ) (xs : List ℕ) (s : Settings) (i : HostState) (written : List ℕ) → settingsOutcome (q ∷ xs) ≡ value s
     → Served q i xs written → i .settings ≡ s
@@ -118,22 +109,18 @@ settings-good (q ∷ xs) s e =
     let host = settings-as-host q xs s e in
     rw (host .2) (good-after (settingsAtSetup q) (messagesIn xs) (messages-whole xs) (good-at-setup q (host .0) (host .1)))
 
-lines-sum : (s : Settings) (link : Link) (rs : List (List ℕ)) → ((x : List ℕ) → queueIn (choiceFor s link x) < s .queues)
-    → sumOf (countedOver s link rs .queues) ≡ countedOver s link rs .total
-unfolding countedOver
-lines-sum s link rs below = tallies-sum (s .queues) (λ (x : List ℕ). queueIn (choiceFor s link x)) rs below
-
 module _ (file capture : List ℕ) (r : Counted) (e : reportOn file capture ≡ value r) where
   abbrev made : MadeOf file capture r
   made = report-made file capture r e
 
   -- the queue lines add up to the total
   pub queue-lines-add-up : sumOf (r .queues) ≡ r .total
+  unfolding countedOver
   queue-lines-add-up =
-      let good = settings-good file (made .settings) (made .loaded) in
-      let below : (x : List ℕ) → queueIn (choiceFor (made .settings) (made .link) x) < made .settings .queues =
-      λ (x : List ℕ). good-queue (made .settings) (ipPart (made .link) x) good in
-      rw (made .is) (lines-sum (made .settings) (made .link) (made .records) below)
+      let s = made .settings in
+      let good = settings-good file s (made .loaded) in
+      let queue : List ℕ → ℕ = λ (x : List ℕ). queueIn (choiceFor s (made .link) x) in
+      rw (made .is) (tallies-sum (s .queues) queue (λ x. good-queue s (ipPart (made .link) x) good) (made .records))
 
   -- the total is the number of the records and their captured octets
   pub total-is-records : r .total ≡ tallyOf (made .records)
@@ -158,16 +145,14 @@ unhashed-on-queue-0 s link x e = by (typeUsed (s .flags) (kindOf (ipPart link x)
     by (hashType t) e = absurd (false≢true e)
 
 pub unhashed-among-queue-0 : (s : Settings) (link : Link) (rs : List (List ℕ)) → length (unhashedOf s link rs) ≤ length (onQueue s link 0 rs)
-unhashed-among-queue-0 s link [] = omega (arith, those-none (λ (x : List ℕ). isUnhashed (choiceFor s link x)) .0)
+unhashed-among-queue-0 s link [] = omega (arith, those-none packets-add (λ (x : List ℕ). isUnhashed (choiceFor s link x)))
 unhashed-among-queue-0 s link (x ∷ rs) =
-    let none = those-one (λ (y : List ℕ). isUnhashed (choiceFor s link y)) x rs in
-    let on = those-one (λ (y : List ℕ). eqb (queueIn (choiceFor s link y)) 0) x rs in
-    let one = by (isUnhashed (choiceFor s link x)) (λ e. unhashed-on-queue-0 s link x e) in
+    let none = those-one packets-add (λ (y : List ℕ). isUnhashed (choiceFor s link y)) x rs in
+    let on = those-one packets-add (λ (y : List ℕ). eqb (queueIn (choiceFor s link y)) 0) x rs in
+    let q = queueIn (choiceFor s link x) in
+    let one = by-test (λ (n : ℕ). n ≤ cond (eqb q 0) 1 0) (isUnhashed (choiceFor s link x)) 1 0
+    (λ e. rw (eq-eqb q 0 (unhashed-on-queue-0 s link x e)) (omega arith)) (λ e. omega arith) in
     omega (arith, none, on, one, unhashed-among-queue-0 s link rs)
-  where
-    by : (t : Bool) → (t ≡ true → queueIn (choiceFor s link x) ≡ 0) → cond t 1 0 ≤ cond (eqb (queueIn (choiceFor s link x)) 0) 1 0
-    by true h = rw (eq-eqb (queueIn (choiceFor s link x)) 0 (h refl)) (omega arith)
-    by false h = omega arith
 
 pub no-packet-unhashed : (s : Settings) (frame : List ℕ) → holdsIp frame ≡ false → isUnhashed (choiceFor s Ethernet frame) ≡ true
 unfolding ipPart kindOf isIpv4 isIpv6 typeUsed chosen

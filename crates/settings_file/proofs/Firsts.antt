@@ -20,13 +20,9 @@ pub keeps-copied : (payload buffer copied : List ℕ) (n : ℕ) → length buffe
     → (length payload ≤ maxPayload → n ≡ length payload) → copied ≡ take n payload → Keeps payload (copied ++ drop n buffer)
 keeps-copied payload buffer copied n size fits inside all e =
     let long : length copied ≡ n = ap length e ∙ length-take-le n payload inside in
-    let behind : length (drop n buffer) ≡ length buffer - n = length-drop n buffer in
     record {
-      size = length-append copied (drop n buffer) ∙ omega (arith, long, behind, size);
-      begins = λ short.
-          let same : n ≡ length payload = all short in
-          let own : copied ≡ payload = e ∙ ap (λ (k : ℕ). take k payload) same ∙ take-length payload in
-          rw own (take-append-seam payload (drop n buffer));
+      size = length-append copied (drop n buffer) ∙ omega (arith, length-drop n buffer);
+      begins = λ short. rw (e, all short, take-length payload) (take-append-seam payload (drop (length payload) buffer));
     }
 
 -- a message that is cut short
@@ -66,24 +62,26 @@ module _ (s : Settings) (xs kept : List ℕ) (good : Good s) (whole : beginsWhol
         }
 
 -- messages one after the other: `left` are the settings before the octets from `at` on
-module _ (s left : Settings) (file : List ℕ) (at : ℕ) (so : settingsFrom s file ≡ settingsFrom left (drop at file)) where
-  pub carry-end : length file ≤ at → value left ≡ settingsFrom s file
-  carry-end past =
-      let none : drop at file ≡ [] = drop-of-length-le file past in
-      sym (so ∙ ap (settingsFrom left) none ∙ from-none left)
+pub record Reaches (s : Settings) (file : List ℕ) (left : Settings) (at : ℕ) : Type 0 where
+  pub inside : at ≤ length file
+  pub good : Good left
+  pub so : settingsFrom s file ≡ settingsFrom left (drop at file)
 
-  module _ (n : ℕ) (next : Settings) (first : CarriesFirst left (take (length file - at) (drop at file)) n next) where
+module _ {s left : Settings} {file : List ℕ} {at : ℕ} (x : Reaches s file left at) where
+  pub reach-end : length file ≤ at → value left ≡ settingsFrom s file
+  reach-end past = sym (x .so ∙ rw (drop-of-length-le file past) (from-none left))
+
+  module _ {n : ℕ} {next : Settings} (first : CarriesFirst left (take (length file - at) (drop at file)) n next) where
     rest : take (length file - at) (drop at file) ≡ drop at file
     rest = take-all (length file - at) (drop at file) (omega (arith, length-drop at file))
 
-    pub carry-stop : n ≡ 0 → refused settingsWrong ≡ settingsFrom s file
-    carry-stop none = sym (so ∙ ap (settingsFrom left) (sym rest) ∙ first .refuses none)
+    pub reach-stop : n ≡ 0 → refused settingsWrong ≡ settingsFrom s file
+    reach-stop none = sym (x .so ∙ rw rest at (first .refuses none))
 
-    pub carry-inside : at ≤ length file → at + n ≤ length file
-    carry-inside inside = omega (arith, first .inside, ap length rest, length-drop at file)
-
-    pub carry-next : 0 < n → settingsFrom s file ≡ settingsFrom next (drop (at + n) file)
-    carry-next some =
-        let further : settingsFrom left (drop at file) ≡ settingsFrom next (drop n (drop at file)) =
-        rw rest at (first .goes-on some) in
-        so ∙ further ∙ ap (settingsFrom next) (drop-drop n at file)
+    pub reach-next : 0 < n → Reaches s file next (at + n)
+    reach-next some =
+        record {
+          inside = omega (arith, ap length rest, length-drop at file);
+          good = first .good;
+          so = x .so ∙ rw (rest, drop-drop n at file) at (first .goes-on some);
+        }

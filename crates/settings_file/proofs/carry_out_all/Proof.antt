@@ -1,22 +1,19 @@
 -- `settings_file::carry_out_all` meets its contract: what was carried out and what is left come to what all messages come to.
 -- Assumes nothing.
-use Rattle.octets.specs.Prelude.{_≡_, refl, _-_, _≤_, arith, length, drop, length-drop, length-take-le, needs}
-use Rattle.messages.specs.Settings.{Good}
-use Rattle.settings_file.specs.Loading.{settingsFrom, settingsHeld}
-use Rattle.settings_file.proofs.Firsts.{carry-end, carry-stop, carry-inside, carry-next}
+use Rattle.octets.specs.Prelude.{refl, _-_, arith, length, drop, length-drop, length-take-le, needs}
+use Rattle.settings_file.specs.Loading.{settingsHeld}
+use Rattle.settings_file.proofs.Firsts.{Reaches, reach-end, reach-stop, reach-next}
 use Rattle.settings_file.proofs.carry_out_all.Statement.{statement}
 use Rattle.settings_file.proofs.carry_out_all.Tie as tie
 
 abbrev Inv-loop : tie.InvT-loop
-Inv-loop file left₀ at₀ left at =
-    (at ≤ length file) × Good (settingsHeld left)
-    × (settingsFrom (settingsHeld left₀) file ≡ settingsFrom (settingsHeld left) (drop at file))
+Inv-loop file left₀ at₀ left at = Reaches (settingsHeld left₀) file (settingsHeld left) at
 
 abbrev μ-loop : tie.MeasureT-loop
 μ-loop file left₀ at₀ left at = length file - at
 
 loop-holds : tie.Need-loop-holds Inv-loop μ-loop
-loop-holds c = (omega arith, c .before .pre, refl)
+loop-holds c = record { inside = omega arith; good = c .before .pre; so = refl }
 
 carry-out-first-requires : tie.Need-carry-out-first-requires Inv-loop μ-loop
 carry-out-first-requires c κs =
@@ -24,22 +21,17 @@ carry-out-first-requires c κs =
     let file = at .before .before .args .file .now in
     let left = length-drop (at .loop .at) file in
     let some = length-take-le (length file - at .loop .at) (drop (at .loop .at) file) (omega (arith, left)) in
-    (at .loop .inv .1, omega (arith, some, c .before .loop-test .taken))
+    (at .loop .inv .good, omega (arith, some, c .before .loop-test .taken))
 
 returns : tie.Need-returns Inv-loop μ-loop
 returns c =
-    let at = c .before .before .before .before .before in
-    let first = c .before .before .carry-out-first in
-    let file = at .before .before .args .file .now in
-    let stop = carry-stop _ (settingsHeld (at .loop .left)) file (at .loop .at) (at .loop .inv .2) _ _ (first .ensures) in
-    (stop (c .if1 .taken), first .ensures .good)
+    let first = c .before .before .carry-out-first .ensures in
+    (reach-stop (c .before .before .before .before .before .loop .inv) first (c .if1 .taken), first .good)
 
 add-at : tie.Need-add-at Inv-loop μ-loop
 add-at c =
-    let at = c .before .before .before .before .before in
     let first = c .before .before .carry-out-first .ensures in
-    let file = at .before .before .args .file .now in
-    let inside = carry-inside _ (settingsHeld (at .loop .left)) file (at .loop .at) (at .loop .inv .2) _ _ first (at .loop .inv .0) in
+    let next = reach-next (c .before .before .before .before .before .loop .inv) first (omega (arith, c .if1 .left)) in
     search needs
 
 loop-less : tie.Need-loop-less Inv-loop μ-loop
@@ -49,19 +41,11 @@ loop-less c =
 
 loop-again : tie.Need-loop-again Inv-loop μ-loop
 loop-again c =
-    let at = c .before .before .before .before .before in
     let first = c .before .before .carry-out-first .ensures in
-    let file = at .before .before .args .file .now in (
-      carry-inside _ (settingsHeld (at .loop .left)) file (at .loop .at) (at .loop .inv .2) _ _ first (at .loop .inv .0),
-      first .good,
-      carry-next _ (settingsHeld (at .loop .left)) file (at .loop .at) (at .loop .inv .2) _ _ first (omega (arith, c .if1 .left)),
-    )
+    reach-next (c .before .before .before .before .before .loop .inv) first (omega (arith, c .if1 .left))
 
 returns-2 : tie.Need-returns-2 Inv-loop μ-loop
-returns-2 c =
-    let at = c .before in
-    let past : length (at .before .before .args .file .now) ≤ at .loop .at = omega (arith, c .loop-test .left) in
-    (carry-end _ (settingsHeld (at .loop .left)) _ (at .loop .at) (at .loop .inv .2) past, at .loop .inv .1)
+returns-2 c = let so = c .before .loop .inv in (reach-end so (omega (arith, c .loop-test .left)), so .good)
 
 pub carry-out-all-spec : {M : Type 1} → statement M
 carry-out-all-spec =

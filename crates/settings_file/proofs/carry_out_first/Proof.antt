@@ -1,8 +1,8 @@
 -- `settings_file::carry_out_first` meets its contract: a message that is cut short or not acked with success is refused.
 -- Assumes nothing.
-use Rattle.octets.specs.Prelude.{_≡_, ap₂, subst, true, List, ℕ, _+_, _-_, arith, length, take, drop, le-leb, lt-leb, needs}
+use Rattle.octets.specs.Prelude.{_≡_, true, List, ℕ, _+_, _-_, arith, length, take, drop, le-leb, lt-leb, needs}
 use Rattle.messages.specs.Wire.{headerSize, typeIn, sizeIn}
-use Rattle.messages.specs.Requests.{Carried, carriedOut}
+use Rattle.messages.specs.Requests.{carriedOut}
 use Rattle.messages.specs.Settings.{Settings}
 use Rattle.ring.specs.Reading.{messageLength}
 use Rattle.ring.specs.Streams.{beginsWhole}
@@ -39,14 +39,11 @@ module _ (d : tie.After-carry-out) where
   keeps =
       let n = d .before .before .before .before .before .read-u322 .result in
       let same : headerSize + n - headerSize ≡ sizeIn file-of = omega (arith, size) in
-      subst (λ (k : ℕ). Keeps (take k (drop headerSize file-of)) kept-of) same (d .before .before .kept .ensures)
+      rw same at (d .before .before .kept .ensures)
 
   carried : let r = d .carry-out .result in
       LeavesAcked (carriedOut settings-of (typeIn file-of) (sizeIn file-of) kept-of) (r .status) (settingsHeld (r .settings))
-  carried =
-      let r = d .carry-out .result in
-      subst (λ (x : Carried). LeavesAcked x (r .status) (settingsHeld (r .settings)))
-      (ap₂ (λ (t n : ℕ). carriedOut settings-of t n kept-of) kind size) (d .carry-out .ensures)
+  carried = rw (← kind, ← size) (d .carry-out .ensures)
 
 returns : tie.Need-returns
 returns c =

@@ -1,7 +1,7 @@
 -- `report::count::count_records` meets its contract: at each place the counts, with what the records from there on come to,
 -- are what all records come to.
 -- Assumes nothing.
-use Rattle.octets.specs.Prelude.{_≡_, sym, ap, subst, _∙_, List, ℕ, _+_, _-_, _≤_, _<_, arith, length, take, drop, length-drop}
+use Rattle.octets.specs.Prelude.{_≡_, sym, ap, _∙_, List, ℕ, _+_, _-_, _≤_, _<_, arith, length, take, drop, length-drop}
 use Rattle.octets.specs.Prelude.{length-take-le, needs}
 use Rattle.octets.specs.Outcome.{value}
 use Rattle.messages.specs.Settings.{Settings, maxQueues}
@@ -15,7 +15,6 @@ use Rattle.capture.proofs.Found.{IsRecord, found-record, found-end, found-bad}
 use Rattle.capture.proofs.Theorems.{records-fill}
 use Rattle.settings_file.specs.Loading.{settingsHeld}
 use Rattle.report.specs.Counting.{choiceFor}
-use Rattle.report.specs.Inner.{HasRoom}
 use Rattle.report.proofs.Orders.{bad-records, good-records}
 use Rattle.report.proofs.Counters.{Counting, counting-none, counting-room, counting-next, counting-fits}
 use Rattle.report.proofs.Counters.{counting-bad, counting-all, counting-done}
@@ -75,10 +74,7 @@ module _ (d : tie.After-known-told Inv-loop μ-loop) where
   counting : let l = loop-of .loop in
       Counting settings-of link-of (all-of capture-of) (oneMore record-of (rest-of capture-of end-of)) (l .packets) (l .octets) (l .unhashed)
       (l .records) (l .total)
-  counting =
-      let l = loop-of .loop in
-      subst (λ (f : Fall). Counting settings-of link-of (all-of capture-of) f (l .packets) (l .octets) (l .unhashed) (l .records) (l .total))
-      (found .fall) (l .inv)
+  counting = rw (found .fall) at (loop-of .loop .inv)
 
   below : queueIn (choiceFor settings-of link-of record-of) < maxQueues
   below =
@@ -89,33 +85,17 @@ module _ (d : tie.After-known-told Inv-loop μ-loop) where
   most =
       omega (arith, records-fill (orderOf capture-of) (drop captureHeader capture-of), length-drop captureHeader capture-of, start-of .pre .1)
 
-  room : HasRoom (choiceFor settings-of link-of record-of) (length record-of) (loop-of .loop .packets) (loop-of .loop .octets)
-  room = counting-room settings-of link-of (all-of capture-of) (rest-of capture-of end-of) record-of _ _ _ _ _ counting below most
-
 -- and counted
 module _ (c : tie.After-count-record Inv-loop μ-loop) where
   abbrev told : tie.After-known-told Inv-loop μ-loop
   told = c .before .before .before .before .before .before
 
-  -- the counts left
-  abbrev packets-left : List ℕ
-  packets-left = c .count-record .last .1 .1 .1 .1 .1 .1 .0
-
-  abbrev octets-left : List ℕ
-  octets-left = c .count-record .last .1 .1 .1 .1 .1 .1 .1 .0
-
   next : let l = loop-of told .loop in
-      Counting (settings-of told) (link-of told) (all-of (capture-of told)) (rest-of (capture-of told) (end-of told)) packets-left octets-left
+      Counting (settings-of told) (link-of told) (all-of (capture-of told)) (rest-of (capture-of told) (end-of told))
+      (c .count-record .last .1 .1 .1 .1 .1 .1 .0) (c .count-record .last .1 .1 .1 .1 .1 .1 .1 .0)
       (l .unhashed + c .count-record .result) (l .records + 1) (l .total + (end-of told - first-of told))
   next =
-      counting-next (settings-of told) (link-of told) (all-of (capture-of told)) (rest-of (capture-of told) (end-of told)) (record-of told) _ _ _ _ _
-      (counting told) (below told) _ _ _ (c .count-record .ensures) (end-of told - first-of told) (size told)
-
-  fits : let l = loop-of told .loop in
-      (l .unhashed + c .count-record .result ≤ 65536) × (l .records + 1 ≤ 65536)
-      × (l .total + (end-of told - first-of told) ≤ 65536)
-  fits =
-      counting-fits (settings-of told) (link-of told) (all-of (capture-of told)) (rest-of (capture-of told) (end-of told)) _ _ _ _ _ next (most told)
+      counting-next _ _ _ (rest-of (capture-of told) (end-of told)) _ (below told) (counting told) (c .count-record .ensures) _ (size told)
 
 loop-holds : tie.Need-loop-holds Inv-loop μ-loop
 loop-holds c = let a = c .before .before .before .args in counting-none (settingsHeld (a .settings)) (a .link) (all-of (a .captured .now))
@@ -132,16 +112,16 @@ part-count-record-end c = found (c .before .before) .inside
 count-record-requires : tie.Need-count-record-requires Inv-loop μ-loop
 count-record-requires c κs =
     let d = c .before .before .before .before .before in
-    (start-of d .pre .0 .mapping .listed, room d)
+    (start-of d .pre .0 .mapping .listed, counting-room _ _ _ (rest-of (capture-of d) (end-of d)) _ (below d) (counting d) (most d))
 
 add-unhashed : tie.Need-add-unhashed Inv-loop μ-loop
-add-unhashed c = let f = fits c .0 in search needs
+add-unhashed c = let f = counting-fits (next c) (most (told c)) .0 in search needs
 
 add-records : tie.Need-add-records Inv-loop μ-loop
-add-records c = let f = fits c .1 in search needs
+add-records c = let f = counting-fits (next c) (most (told c)) .1 in search needs
 
 sub-total : tie.Need-sub-total Inv-loop μ-loop
-sub-total c = found (c .before .before .before .before .before .before) .forward
+sub-total c = found (told c) .forward
 
 cast-total : tie.Need-cast-total Inv-loop μ-loop
 cast-total c =
@@ -152,10 +132,10 @@ cast-total c =
     search needs
 
 add-total : tie.Need-add-total Inv-loop μ-loop
-add-total c = let f = fits c .2 in search needs
+add-total c = let f = counting-fits (next c) (most (told c)) .2 in search needs
 
 loop-less : tie.Need-loop-less Inv-loop μ-loop
-loop-less c = let f = found (c .before .before .before .before .before .before) in omega (arith, f .start, f .forward, f .inside)
+loop-less c = let f = found (told c) in omega (arith, f .start, f .forward, f .inside)
 
 loop-again : tie.Need-loop-again Inv-loop μ-loop
 loop-again c = next c
@@ -167,23 +147,18 @@ returns c =
     let xs = a .captured .now in
     let l = at .loop in
     let bad = found-bad xs (l .at) 15 (sym (c .before .before .before .record-at .ensures) ∙ ap stepOutcomeOf (c .before .enum-told2 .given .1)) in
-    let all = counting-bad (settingsHeld (a .settings)) (a .link) (all-of xs) (rest-of xs (l .at)) _ _ _ _ _ (l .inv) 15 bad in
-    (c .refused .ensures .0 ∙ bad-records (settingsHeld (a .settings)) (a .link) xs all, c .refused .ensures .1)
+    (c .refused .ensures .0 ∙ bad-records (settingsHeld (a .settings)) (a .link) xs (counting-bad (l .inv) 15 bad), c .refused .ensures .1)
 
 returns-2 : tie.Need-returns-2 Inv-loop μ-loop
 returns-2 c =
     let at = c .before .before .before .before in
     let start = at .before .before .before .before in
-    let s = settingsHeld (start .args .settings) in
-    let link = start .args .link in
     let xs = start .args .captured .now in
-    let l = at .loop in
-    let ended = found-end xs (l .at) (sym (c .before .before .before .record-at .ensures) ∙ ap stepOutcomeOf (c .before .enum-told .given .1)) in
     let few = start .pre .0 .queues in
-    let done = subst (λ (f : Fall). Counting s link (all-of xs) f (l .packets) (l .octets) (l .unhashed) (l .records) (l .total)) ended (l .inv) in
-    let counts = counting-done s link (all-of xs) (l .packets) (l .octets) (l .unhashed) (l .records) (l .total) few done in
-    let all = counting-all s link (all-of xs) (l .packets) (l .octets) (l .unhashed) (l .records) (l .total) few done in
-    rw (c .counted .ensures) (ap value counts ∙ good-records s link xs (all-of xs .records) all, few)
+    let step = sym (c .before .before .before .record-at .ensures) ∙ ap stepOutcomeOf (c .before .enum-told .given .1) in
+    let done = rw (found-end xs (at .loop .at) step) at (at .loop .inv) in
+    let all = good-records (settingsHeld (start .args .settings)) (start .args .link) xs (all-of xs .records) (counting-all done) in
+    rw (c .counted .ensures) (ap value (counting-done done few) ∙ all, few)
 
 pub count-records-spec : {M : Type 1} → statement M
 count-records-spec =
