@@ -47,28 +47,23 @@ fn run(first: Ends, page: &mut [u8], cases: &[u8]) -> Ends
     requires { ⌜ GoodGuest (guestOf (first .guest)) × Good (stateOf (first .interface)) × (length (now page) ≡ 4160) ⌝ }
     ensures { λ r. ⌜ GoodGuest (guestOf (r .guest)) × Good (stateOf (r .interface)) ⌝ }
 {
-    let mut ends = first;
+    let mut guest = first.guest;
+    let mut interface = first.interface;
     let mut at: usize = 0;
     while at < cases.len() {
         let taken = take_case(cases, at);
+        let kind = taken.kind;
         let start = taken.start;
         let end = taken.end;
-        ends = answer(ends, page, taken.kind, &cases[start..end]);
+        let body = &cases[start..end];
+        guest = guest::answer(guest, page, kind, body);
+        interface = answer_host(interface, page, kind, body);
         at = end;
     }
-    ends
-}
-
-// Answers one case: the guest's part in it first.
-fn answer(ends: Ends, page: &mut [u8], kind: u8, body: &[u8]) -> Ends
-    requires { ⌜ GoodGuest (guestOf (ends .guest)) × Good (stateOf (ends .interface)) × (length (now page) ≡ 4160) ⌝ }
-    ensures { λ r. ⌜ GoodGuest (guestOf (r .guest)) × Good (stateOf (r .interface)) ⌝ }
-{
-    let guest = guest::answer(ends.guest, page, kind, body);
-    let interface = answer_host(ends.interface, page, kind, body);
     Ends { guest, interface }
 }
 
+// The host's part in a case, which comes after the guest's.
 fn answer_host(i: Interface, page: &mut [u8], kind: u8, body: &[u8]) -> Interface
     requires { ⌜ Good (stateOf i) × (length (now page) ≡ 4160) ⌝ }
     ensures { λ r. ⌜ Good (stateOf r) ⌝ }

@@ -7,13 +7,14 @@ use Rattle.guest_vectors.proofs.run.Statement.{statement}
 use Rattle.guest_vectors.proofs.run.Tie as tie
 
 abbrev Inv-loop : tie.InvT-loop
-Inv-loop page₀ cases ends₀ at₀ page ends at =
-    (at ≤ length cases) × (length page ≡ 4160) × GoodGuest (guestOf (ends .guest)) × Good (stateOf (ends .interface))
+Inv-loop page₀ cases guest₀ interface₀ at₀ page guest interface at =
+    (at ≤ length cases) × (length page ≡ 4160) × GoodGuest (guestOf guest) × Good (stateOf interface)
 
 abbrev μ-loop : tie.MeasureT-loop
-μ-loop page₀ cases ends₀ at₀ page ends at = length cases - at
+μ-loop page₀ cases guest₀ interface₀ at₀ page guest interface at = length cases - at
 
 pub run-spec : {M : Type 1} → statement M
 run-spec =
     tie.close (tie.spec Inv-loop μ-loop (λ c. search needs) (λ c κs. search needs) (λ c. search needs) (λ c. search needs)
-    (λ c. search needs) (λ c κs. search needs) (λ c. search needs) (λ c. search needs) (λ c. search needs) (λ c. search needs))
+    (λ c. search needs) (λ c κs. search needs) (λ c κs. search needs) (λ c. search needs) (λ c. search needs) (λ c. search needs)
+    (λ c. search needs))
