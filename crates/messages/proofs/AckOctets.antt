@@ -1,6 +1,6 @@
 -- The octets of the two kinds of ack, and the status in them.
 -- Assumes nothing.
-use Rattle.octets.specs.Prelude.{_≡_, refl, sym, ap, _∙_, List, _++_, true, false≢true, ℕ, _+_, _-_, _^_}
+use Rattle.octets.specs.Prelude.{_≡_, refl, sym, ap, _∙_, List, _++_, true, false≢true, ℕ, _+_, _^_}
 use Rattle.octets.specs.Prelude.{_≤_, _<_, arith, length, set, replicate, length-append, length-replicate, eqb-true}
 use Rattle.octets.specs.Numbers.{numberAt, octetsOf}
 use Rattle.octets.proofs.Truth.{by-test}
@@ -50,9 +50,5 @@ payload-short r status = payload-size r status .1
 pub stored-fits : (payload : List ℕ) → length payload ≤ 16
     → (length (ackStored payload .octets) ≡ maxAck) × (ackStored payload .length ≤ maxAck)
 stored-fits payload short =
-    let long : length (message ackType payload) ≡ headerSize + length payload = length-message ackType payload in (
-      length-append (message ackType payload) (replicate (maxAck - length (message ackType payload)) 0)
-          ∙ ap (λ (k : ℕ). length (message ackType payload) + k) (length-replicate (maxAck - length (message ackType payload)) 0)
-          ∙ omega arith,
-      omega arith,
-    )
+    let long : length (message ackType payload) ≡ headerSize + length payload = length-message ackType payload in
+    (simp (length-append, length-replicate) (omega arith), omega arith)

@@ -11,16 +11,13 @@ use Rattle.messages.specs.Requests.{withFlags, withKey, withMapping, rep
 use Rattle.messages.specs.declared.Mapping.{Mapping}
 use Rattle.messages.specs.Settings.{Settings}
 
--- only a success has flags in its ack
-pub flags-on-success : (r : Request) (status : ℕ) → carriesFlags r (suc status) ≡ false
-flags-on-success r status =
-    same-truth (carriesFlags r (suc status)) false
-    (λ e. let q = flags-success r (suc status) e .1 in absurd (omega arith)) (λ e. absurd (false≢true e))
-
 module _ (r : Request) (s : Settings) (n : ℕ) (p : List ℕ) where
   pub carried-refused : (status : ℕ) → statusOf r (s .queues) n p ≡ suc status → answered s (suc status) ≡ carriedBy r s n p
   unfolding carriedBy
-  carried-refused status e = rw (e, flags-on-success r status, eqb·suc-zero) refl
+  carried-refused status e =
+      let no-flags = same-truth (carriesFlags r (suc status)) false
+      (λ f. absurd (omega (arith, flags-success r _ f .1))) (λ f. absurd (false≢true f)) in
+      rw (e, no-flags, eqb·suc-zero) refl
 
   carried-done : statusOf r (s .queues) n p ≡ success → carriesFlags r success ≡ false → answered (replaced r s n p) success ≡ carriedBy r s n p
   unfolding carriedBy

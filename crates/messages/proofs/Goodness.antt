@@ -1,6 +1,6 @@
 -- Good settings: at setup, and after each success.
 -- Assumes nothing.
-use Rattle.octets.specs.Prelude.{_≡_, sym, ap, _∙_, subst, List, [], _∷_, true, ℕ, zero, suc, _+_, _-_, _/_, _≤_, arith, length}
+use Rattle.octets.specs.Prelude.{_≡_, sym, subst, List, [], _∷_, true, ℕ, zero, suc, _/_, _≤_, arith, length}
 use Rattle.octets.specs.Prelude.{length-append, length-replicate, take-append-seam, length-take-le}
 use Rattle.toeplitz.specs.Hash.{keyLength}
 use Rattle.messages.specs.Wire.{fieldSize, success, allFlags}
@@ -18,13 +18,14 @@ use Rattle.messages.proofs.Statuses.{set-flags-exactly, set-mapping-exa
 pub table-stored : (table : List ℕ) → tableOf (mappingOf table) ≡ table
 table-stored table = take-append-seam table _
 
-length-stored : (table : List ℕ) → length table ≤ maxEntries → length (mappingOf table .entries) ≡ maxEntries
-length-stored table h = length-append table _ ∙ ap (λ (n : ℕ). length table + n) (length-replicate (maxEntries - length table) 0) ∙ omega arith
-
 pub good-mapping : (q : ℕ) (table : List ℕ) → isPowerOfTwo (length table) ≡ true → length table ≤ maxEntries
     → EachBelow q table → GoodMapping q (mappingOf table)
 good-mapping q table e l h =
-    record { size = length-stored table l; listed = listed-parts (length table) .1 (e, l); below = subst (EachBelow q) (sym (table-stored table)) h }
+    record {
+      size = simp (length-append, length-replicate) (omega arith);
+      listed = listed-parts (length table) .1 (e, l);
+      below = subst (EachBelow q) (sym (table-stored table)) h;
+    }
 
 pub first-table : (q : ℕ) → 1 ≤ q → EachBelow q (0 ∷ [])
 first-table q some zero l = some

@@ -63,7 +63,11 @@ module _ (q n : ℕ) (p : List ℕ) where
   unfolding statusOf
   none-supported = refl
 
-  -- when a request succeeds
+  -- when each request succeeds
+  pub get-flags-exactly : (statusOf getFlags q n p ≡ success) ↔ (n ≡ 0)
+  unfolding statusOf
+  get-flags-exactly = (λ e. eqb-true _ _ (check-passed (eqb n 0) _ _ e .0), get-flags-done)
+
   pub set-flags-exactly : (statusOf setFlags q n p ≡ success) ↔ ((n ≡ fieldSize) × (flagsIn p ≤ allFlags))
   unfolding statusOf
   set-flags-exactly = (

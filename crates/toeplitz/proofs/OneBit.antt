@@ -29,23 +29,17 @@ zeros (suc n) zero = refl
 zeros (suc n) (suc i) = zeros n i
 
 module _ (n b : ℕ) (h : b < n * 8) where
-  abbrev top : ℕ
-  top = 2 ^ (7 - b % 8)
-
-  here : b / 8 < length {A = ℕ} (replicate n 0)
-  here = simp length-replicate (omega arith)
-
   pub length-one : length (oneBit n b) ≡ n
   unfolding oneBit
   length-one = simp (length-set, length-replicate)
 
-  octet-same : getD (oneBit n b) (b / 8) 0 ≡ top
+  octet-same : getD (oneBit n b) (b / 8) 0 ≡ 2 ^ (7 - b % 8)
   unfolding oneBit
-  octet-same = getD-set-same (replicate n 0) (b / 8) top 0 here
+  octet-same = getD-set-same (replicate n 0) (b / 8) _ 0 (simp length-replicate (omega arith))
 
   octet-other : (k : ℕ) → (k ≡ b / 8 → ⊥) → getD (oneBit n b) k 0 ≡ 0
   unfolding oneBit
-  octet-other k m = getD-set-other (replicate n 0) (b / 8) k top 0 m ∙ zeros n k
+  octet-other k m = getD-set-other (replicate n 0) (b / 8) k _ 0 m ∙ zeros n k
 
   octets-one : (i : ℕ) → getD (oneBit n b) i 0 < 256
   octets-one i =

@@ -5,7 +5,7 @@ use Rattle.octets.specs.Prelude.{_≡_, refl, sym, ap, ap₂, _∙_, List, ℕ,
 use Rattle.octets.specs.Prelude.{getD}
 use Rattle.toeplitz.specs.Hash.{bitAt, bitsAt, windowAt}
 use Rattle.toeplitz.specs.TwoWay.{sizeOf, RepeatsEveryTwo, agree, verdict}
-use Rattle.toeplitz.proofs.Mirror.{Place, part1, part2, part3, part4, place, mirror1, mirror2, mirror3, mirror4}
+use Rattle.toeplitz.proofs.Mirror.{part1, part2, part3, part4, place, mirror1, mirror2, mirror3, mirror4}
 use Rattle.toeplitz.proofs.TwoWays.{mirrored, same-agree}
 
 module _ (key : List ℕ) (r : RepeatsEveryTwo key) where
@@ -35,20 +35,17 @@ module _ (key : List ℕ) (r : RepeatsEveryTwo key) where
   apart m i j e h = sym (ap (windowAt key) e ∙ windows-again m i (omega arith))
 
   -- addresses of h * 2 octets and ports of q * 2: a bit and its mirror are h * 16 or q * 16 bits apart
-  mirror-apart : (h q : ℕ) → sizeOf (h * 2) (q * 2) ≤ 36 → (i : ℕ) → Place (h * 2 * 8) (q * 2 * 8) i
-      → windowAt key i ≡ mirrored key (h * 2) (q * 2) i
-  mirror-apart h q s i (part1 l) =
-      apart h i _ (omega (arith, mirror1 (h * 2 * 8) (q * 2 * 8) i l)) (omega (arith, mirror1 (h * 2 * 8) (q * 2 * 8) i l))
-  mirror-apart h q s i (part2 g l) =
-      sym (apart h _ i (omega (arith, mirror2 (h * 2 * 8) (q * 2 * 8) i g l)) (omega arith))
-  mirror-apart h q s i (part3 g l) =
-      apart q i _ (omega (arith, mirror3 (h * 2 * 8) (q * 2 * 8) i g l)) (omega (arith, mirror3 (h * 2 * 8) (q * 2 * 8) i g l))
-  mirror-apart h q s i (part4 g l) =
-      sym (apart q _ i (omega (arith, mirror4 (h * 2 * 8) (q * 2 * 8) i g)) (omega arith))
-
   mirror-same : (h q : ℕ) → sizeOf (h * 2) (q * 2) ≤ 36 → (i : ℕ) → i < sizeOf (h * 2) (q * 2) * 8
       → windowAt key i ≡ mirrored key (h * 2) (q * 2) i
-  mirror-same h q s i l = mirror-apart h q s i (place (h * 2 * 8) (q * 2 * 8) i (omega arith))
+  mirror-same h q s i n =
+      let a = h * 2 * 8 in
+      let p = q * 2 * 8 in
+      elim (place a p i (omega arith)) [
+        | part1 l ↦ apart h i _ (omega (arith, mirror1 a p i l)) (omega (arith, mirror1 a p i l))
+        | part2 g l ↦ sym (apart h _ i (omega (arith, mirror2 a p i g l)) (omega arith))
+        | part3 g l ↦ apart q i _ (omega (arith, mirror3 a p i g l)) (omega (arith, mirror3 a p i g l))
+        | part4 g l ↦ sym (apart q _ i (omega (arith, mirror4 a p i g)) (omega arith))
+      ]
 
   pub repeats-agree : (t : ℕ) → t ≤ 3 → verdict key t ≡ agree
   repeats-agree zero h = same-agree key 0 (mirror-same 2 0 (omega arith))

@@ -22,16 +22,14 @@ returns-3 c = refuse-length _ _ (λ e. c .if3 .taken (e ∙ sym (c .before .read
 returns-4 : tie.Need-returns-4
 returns-4 c =
     let told = c .before .before in
-    let status = told .before in
-    let sized = status .before .before in
-    let carries = flags-told _ _ _ _ _ (status .read-u64 .ensures) (told .carries-flags .ensures) (c .before .if4 .taken) in
-    refuse-flags-size _ _ carries (λ e. c .if5 .taken (sized .read-u322 .ensures ∙ e))
+    let carries = flags-told _ _ _ _ _ (told .before .read-u64 .ensures) (told .carries-flags .ensures) (c .before .if4 .taken) in
+    refuse-flags-size _ _ carries (λ e. c .if5 .taken (told .before .before .before .read-u322 .ensures ∙ e))
 
 returns-5 : tie.Need-returns-5
 returns-5 c =
     let told = c .before .before .before .before in
-    let status = told .before in
-    let carries = flags-told _ _ _ _ _ (status .read-u64 .ensures) (told .carries-flags .ensures) (c .before .before .before .if4 .taken) in
+    let tested = c .before .before .before .if4 .taken in
+    let carries = flags-told _ _ _ _ _ (told .before .read-u64 .ensures) (told .carries-flags .ensures) tested in
     let high : allFlags < c .before .read-u642 .result = omega (arith, c .if6 .taken) in
     refuse-flags _ _ carries (rw (c .before .read-u642 .ensures) at high)
 
@@ -52,10 +50,8 @@ returns-6 c =
 returns-7 : tie.Need-returns-7
 returns-7 c =
     let told = c .before .before in
-    let status = told .before in
-    let sized = status .before .before in
-    let carries = flags-told _ _ _ _ _ (status .read-u64 .ensures) (told .carries-flags .ensures) (c .before .if4 .left) in
-    refuse-size _ _ carries (λ e. c .if7 .taken (sized .read-u322 .ensures ∙ e))
+    let carries = flags-told _ _ _ _ _ (told .before .read-u64 .ensures) (told .carries-flags .ensures) (c .before .if4 .left) in
+    refuse-size _ _ carries (λ e. c .if7 .taken (told .before .before .before .read-u322 .ensures ∙ e))
 
 returns-8 : tie.Need-returns-8
 returns-8 c =

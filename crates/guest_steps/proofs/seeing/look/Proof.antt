@@ -1,7 +1,7 @@
 -- `guest_steps::seeing::look` meets its contract: each test on the way to a return is one of what is seen of an ack.
 -- Assumes nothing.
-use Rattle.octets.specs.Prelude.{_≡_, sym, _∙_, false, ⊎-elim, _≤_, arith, needs, not-true, not-false}
-use Rattle.messages.specs.Wire.{headerSize, sizeIn}
+use Rattle.octets.specs.Prelude.{_≡_, sym, _∙_, false, ⊎-elim, arith, needs, not-true, not-false}
+use Rattle.messages.specs.Wire.{sizeIn}
 use Rattle.ring.specs.Reading.{Message}
 use Rattle.guest_steps.specs.Calls.{sizeWrong}
 use Rattle.guest_steps.proofs.Sights.{sees-no-header, sees-wrong, size-short, size-long, sees-part, sees-whole}
@@ -29,9 +29,8 @@ module _ (d : tie.Joined2) where
 
   right : sizeWrong ack ≡ false
   right =
-      let there : headerSize ≤ ack .taken = d .before .before .before .if1 .left in
-      ⊎-elim (λ w. size-long ack there (sym size-read ∙ w .1 .left))
-      (λ w. size-short ack there (sym size-read ∙ w .left)) (d .if2 .came)
+      let there = d .before .before .before .if1 .left in
+      ⊎-elim (λ w. size-long ack there (sym size-read ∙ w .1 .left)) (λ w. size-short ack there (sym size-read ∙ w .left)) (d .if2 .came)
 
 returns-3 : tie.Need-returns-3
 returns-3 c =
