@@ -1,13 +1,13 @@
 -- The records of a capture are exactly those that its octets hold, one after the other behind the capture's header.
 -- Assumes nothing.
 use Rattle.octets.specs.Prelude.{_≡_, refl, sym, ap, subst, _∙_, List, [], _∷_, _++_, true, _↔_, ℕ}
-use Rattle.octets.specs.Prelude.{_-_, _≤_, arith, length, take, drop, length-append, length-drop, take-append-drop}
+use Rattle.octets.specs.Prelude.{_-_, arith, length, take, drop, length-append, length-drop, take-append-drop}
 use Rattle.octets.specs.Prelude.{length-take-le, drop-drop, take-at, drop-at, eqb, eqb-true}
 use Rattle.octets.specs.Outcome.{value}
 use Rattle.octets.proofs.Outcomes.{test-value}
 use Rattle.capture.specs.Header.{captureHeader, orderOf}
-use Rattle.capture.specs.Records.{recordWrong, recordHeader, maxRecord, capturedLength, beginsRecord, firstRecord, behindRecord}
-use Rattle.capture.specs.Records.{Fall, noRecord, fallWithin, fallOf, allOf, recordsOutcome, Holds, holdsNone, holdsMore}
+use Rattle.capture.specs.Records.{recordWrong, recordHeader, capturedLength, beginsRecord, firstRecord, behindRecord}
+use Rattle.capture.specs.Records.{Fall, fallWithin, fallOf, allOf, recordsOutcome, Holds, holdsNone, holdsMore}
 use Rattle.capture.specs.declared.Order.{Order}
 use Rattle.capture.proofs.Orders.{number-in-take, number-in-append}
 use Rattle.capture.proofs.Steps.{begins}
@@ -26,25 +26,22 @@ module _ (o : Order) where
       let rest = drop recordHeader xs in
       let fits = begins-fits o xs e in
       let left : length rest ≡ length xs - recordHeader = length-drop recordHeader xs in
-      let first : length (firstRecord o xs) ≡ n = length-take-le n rest (omega (arith, fits .1, left)) in
+      let first : length (firstRecord o xs) ≡ n = length-take-le n rest (omega (arith, fits .1)) in
       let joined : header ++ (firstRecord o xs ++ behindRecord o xs) ≡ xs =
-      ap (λ (l : List ℕ). header ++ (firstRecord o xs ++ l)) (sym (drop-drop n recordHeader xs))
-      ∙ ap (λ (l : List ℕ). header ++ l) (take-append-drop n rest) ∙ take-append-drop recordHeader xs in
+      rw (← drop-drop n recordHeader xs, take-append-drop n rest) (take-append-drop recordHeader xs) in
       let whole : length header ≡ recordHeader = length-take-le recordHeader xs (omega (arith, fits .1)) in
       let told : capturedLength o header ≡ length (firstRecord o xs) = number-in-take o 4 recordHeader xs 8 (omega arith) ∙ sym first in
-      let short : length (firstRecord o xs) ≤ maxRecord = omega (arith, first, fits .0) in
-      subst (Holds o (firstRecord o xs ∷ rs)) joined (holdsMore o header (firstRecord o xs) rs (behindRecord o xs) whole told short h)
+      subst (Holds o (firstRecord o xs ∷ rs)) joined
+      (holdsMore o header (firstRecord o xs) rs (behindRecord o xs) whole told (omega (arith, fits .0)) h)
 
   -- where nothing is left, the octets hold the records
   abbrev Held : Fall → List ℕ → Type 0
   Held f xs = length (f .left) ≡ 0 → Holds o (f .records) xs
 
-  held-none : (xs : List ℕ) → Held (noRecord xs) xs
-  held-none xs e = rw (no-octets-left xs e) (holdsNone o)
-
   held-within : (n : ℕ) (xs : List ℕ) → Held (fallWithin n o xs) xs
   held-within =
-      fall-ways o (λ (xs : List ℕ) (f : Fall). Held f xs) held-none (λ xs f e others none. held-first xs (f .records) e (others none))
+      fall-ways o (λ (xs : List ℕ) (f : Fall). Held f xs) (λ xs e. rw (no-octets-left xs e) (holdsNone o))
+      (λ xs f e others none. held-first xs (f .records) e (others none))
 
   -- and records that octets hold are those that are found
   held-found : (rs : List (List ℕ)) (xs : List ℕ) → Holds o rs xs → fallOf o xs ≡ record { records = rs; left = [] }

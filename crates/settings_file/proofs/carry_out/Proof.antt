@@ -24,12 +24,6 @@ module _ (d : tie.After-carry-out) where
       ap (λ (x : Carried). length (x .ack .octets)) (d .carry-out .ensures)
       ∙ ack-fits (settingsHeld (a .settings)) (a .kind) (a .size) (a .payload .now) .0
 
-slice-aggregate-read-u64 : tie.Need-slice-aggregate-read-u64
-slice-aggregate-read-u64 c = let long = size (c .before) in search needs
-
-read-u64-requires : tie.Need-read-u64-requires
-read-u64-requires c κs = omega (arith, size (c .before))
-
 returns : tie.Need-returns
 returns c =
     let d = c .before .before in
@@ -41,4 +35,6 @@ returns c =
     }
 
 pub carry-out-spec : {M : Type 1} → statement M
-carry-out-spec = tie.close (tie.spec (λ c κs. search needs) slice-aggregate-read-u64 read-u64-requires returns)
+carry-out-spec =
+    tie.close (tie.spec (λ c κs. search needs) (λ c. let long = size (c .before) in search needs)
+    (λ c κs. omega (arith, size (c .before))) returns)

@@ -12,9 +12,6 @@ Inv-loop file left₀ at₀ left at = Reaches (settingsHeld left₀) file (setti
 abbrev μ-loop : tie.MeasureT-loop
 μ-loop file left₀ at₀ left at = length file - at
 
-loop-holds : tie.Need-loop-holds Inv-loop μ-loop
-loop-holds c = record { inside = omega arith; good = c .before .pre; so = refl }
-
 carry-out-first-requires : tie.Need-carry-out-first-requires Inv-loop μ-loop
 carry-out-first-requires c κs =
     let at = c .before .before in
@@ -34,11 +31,6 @@ add-at c =
     let next = reach-next (c .before .before .before .before .before .loop .inv) first (omega (arith, c .if1 .left)) in
     search needs
 
-loop-less : tie.Need-loop-less Inv-loop μ-loop
-loop-less c =
-    let test = c .before .before .before .before .loop-test .taken in
-    omega (arith, c .if1 .left, test)
-
 loop-again : tie.Need-loop-again Inv-loop μ-loop
 loop-again c =
     let first = c .before .before .carry-out-first .ensures in
@@ -49,5 +41,6 @@ returns-2 c = let so = c .before .loop .inv in (reach-end so (omega (arith, c .l
 
 pub carry-out-all-spec : {M : Type 1} → statement M
 carry-out-all-spec =
-    tie.close (tie.spec Inv-loop μ-loop loop-holds (λ c. search needs) (λ c. search needs) (λ c. search needs) carry-out-first-requires
-    returns add-at loop-less loop-again returns-2)
+    tie.close (tie.spec Inv-loop μ-loop (λ c. record { inside = omega arith; good = c .before .pre; so = refl }) (λ c. search needs)
+    (λ c. search needs) (λ c. search needs) carry-out-first-requires returns add-at
+    (λ c. let test = c .before .before .before .before .loop-test .taken in omega (arith, c .if1 .left, test)) loop-again returns-2)

@@ -37,15 +37,6 @@ done c =
     let d = c .before .before in
     rw (left d) (load-done (file-of d) (sym (c .if1 .left) ∙ answered d))
 
-sub-carry-out-all : tie.Need-sub-carry-out-all
-sub-carry-out-all c = let some = done c .0 in omega arith
-
-part-carry-out-all-start : tie.Need-part-carry-out-all-start
-part-carry-out-all-start c = let some = done c .0 in omega arith
-
-carry-out-all-requires : tie.Need-carry-out-all-requires
-carry-out-all-requires c κs = good (c .before .before .before)
-
 returns : tie.Need-returns
 returns c =
     let d = c .before .before in
@@ -60,5 +51,5 @@ returns-2 c =
 
 pub load-settings-spec : {M : Type 1} → statement M
 load-settings-spec =
-    tie.close (tie.spec (λ c κs. search needs) (λ c κs. search needs) returns sub-carry-out-all part-carry-out-all-start
-    (λ c. search needs) carry-out-all-requires returns-2)
+    tie.close (tie.spec (λ c κs. search needs) (λ c κs. search needs) returns (λ c. let some = done c .0 in omega arith)
+    (λ c. let some = done c .0 in omega arith) (λ c. search needs) (λ c κs. good (c .before .before .before)) returns-2)

@@ -27,10 +27,8 @@ module _ (d : tie.After-set-up) where
   few-entries : left .mapping .count ≤ maxEntries
   few-entries = listed-parts (left .mapping .count) .0 (good .mapping .listed) .1
 
-returns : tie.Need-returns
-returns c = (c .set-up .ensures .0, is c)
-
 pub set-up-spec : {M : Type 1} → statement M
 set-up-spec =
     tie.close (tie.spec (λ c κs. search needs) (λ c. search needs) (λ c. let few = good c .queues in search needs) (λ c. search needs)
-    (λ c. let few = good c .flags in search needs) (λ c. search needs) (λ c. let few = few-entries c in search needs) returns)
+    (λ c. let few = good c .flags in search needs) (λ c. search needs) (λ c. let few = few-entries c in search needs)
+    (λ c. (c .set-up .ensures .0, is c)))

@@ -97,31 +97,17 @@ module _ (c : tie.After-count-record Inv-loop μ-loop) where
   next =
       counting-next _ _ _ (rest-of (capture-of told) (end-of told)) _ (below told) (counting told) (c .count-record .ensures) _ (size told)
 
+  fits : let l = loop-of told .loop in
+      (l .unhashed + c .count-record .result ≤ 65536) × (l .records + 1 ≤ 65536) × (l .total + (end-of told - first-of told) ≤ 65536)
+  fits = counting-fits next (most told)
+
 loop-holds : tie.Need-loop-holds Inv-loop μ-loop
 loop-holds c = let a = c .before .before .before .args in counting-none (settingsHeld (a .settings)) (a .link) (all-of (a .captured .now))
-
-sub-count-record : tie.Need-sub-count-record Inv-loop μ-loop
-sub-count-record c = found (c .before .before) .forward
-
-part-count-record-start : tie.Need-part-count-record-start Inv-loop μ-loop
-part-count-record-start c = found (c .before .before) .forward
-
-part-count-record-end : tie.Need-part-count-record-end Inv-loop μ-loop
-part-count-record-end c = found (c .before .before) .inside
 
 count-record-requires : tie.Need-count-record-requires Inv-loop μ-loop
 count-record-requires c κs =
     let d = c .before .before .before .before .before in
     (start-of d .pre .0 .mapping .listed, counting-room _ _ _ (rest-of (capture-of d) (end-of d)) _ (below d) (counting d) (most d))
-
-add-unhashed : tie.Need-add-unhashed Inv-loop μ-loop
-add-unhashed c = let f = counting-fits (next c) (most (told c)) .0 in search needs
-
-add-records : tie.Need-add-records Inv-loop μ-loop
-add-records c = let f = counting-fits (next c) (most (told c)) .1 in search needs
-
-sub-total : tie.Need-sub-total Inv-loop μ-loop
-sub-total c = found (told c) .forward
 
 cast-total : tie.Need-cast-total Inv-loop μ-loop
 cast-total c =
@@ -130,15 +116,6 @@ cast-total c =
     let small = start-of d .pre .1 in
     let most-left : end-of d - first-of d ≤ 65536 = omega (arith, inside, small) in
     search needs
-
-add-total : tie.Need-add-total Inv-loop μ-loop
-add-total c = let f = counting-fits (next c) (most (told c)) .2 in search needs
-
-loop-less : tie.Need-loop-less Inv-loop μ-loop
-loop-less c = let f = found (told c) in omega (arith, f .start, f .forward, f .inside)
-
-loop-again : tie.Need-loop-again Inv-loop μ-loop
-loop-again c = next c
 
 returns : tie.Need-returns Inv-loop μ-loop
 returns c =
@@ -162,6 +139,8 @@ returns-2 c =
 
 pub count-records-spec : {M : Type 1} → statement M
 count-records-spec =
-    tie.close (tie.spec Inv-loop μ-loop loop-holds (λ c κs. search needs) (λ c. search needs) sub-count-record part-count-record-start
-    part-count-record-end count-record-requires add-unhashed add-records sub-total cast-total add-total loop-less loop-again
+    tie.close (tie.spec Inv-loop μ-loop loop-holds (λ c κs. search needs) (λ c. search needs) (λ c. found (c .before .before) .forward)
+    (λ c. found (c .before .before) .forward) (λ c. found (c .before .before) .inside) count-record-requires
+    (λ c. let f = fits c .0 in search needs) (λ c. let f = fits c .1 in search needs) (λ c. found (told c) .forward) cast-total
+    (λ c. let f = fits c .2 in search needs) (λ c. let f = found (told c) in omega (arith, f .start, f .forward, f .inside)) (λ c. next c)
     (λ c. search needs) (λ c. search needs) (λ c κs. search needs) returns (λ c κs. search needs) returns-2)
