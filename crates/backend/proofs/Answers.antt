@@ -1,5 +1,4 @@
 -- The answers of setup and of an event: each refusal exactly where its condition is the first that holds.
--- Assumes nothing.
 use Rattle.octets.specs.Prelude.{_≡_, refl, sym, ap, _∙_, List, _↔_, Bool, true, false, cond, _&&_, false≢true, ℕ, _≤_, _<_, arith, length}
 use Rattle.octets.specs.Prelude.{eqb, leb, le-leb, leb-true}
 use Rattle.octets.specs.Outcome.{Outcome, value, refused}
@@ -11,8 +10,7 @@ use Rattle.page.specs.Page.{pageSize, areaSize}
 use Rattle.page.proofs.Tests.{RefusesExactly}
 use Rattle.ring.specs.Reading.{whole}
 use Rattle.interface.specs.States.{HostState, queuesWrong, interfaceAtSetup, setUpOutcome}
-use Rattle.interface.specs.Events.{After, waiting, ackWritten, ackOwed, unread, unreadAcks, owes, responded, readIn, carriedOver, proceeded}
-use Rattle.interface.specs.Events.{eventOf}
+use Rattle.interface.specs.Events.{After, waiting, ackWritten, ackOwed, unread, unreadAcks, owes, responded, readIn, carriedOver, proceeded, eventOf}
 use Rattle.backend.specs.Rules.{Accepted, room, afterReading}
 use Rattle.backend.proofs.Branches.{event-ways, proceeded-cases, event-cases}
 

@@ -1,5 +1,4 @@
 -- The octets that are read of the present message.
--- Assumes nothing.
 use Rattle.octets.specs.Prelude.{_≡_, sym, ap, ap₂, _∙_, List, _++_, false, ℕ, _-_, _≤_, arith, length, length-append}
 use Rattle.page.specs.Page.{areaSize, requestsAt, less, advanced, octetsIn}
 use Rattle.ring.specs.Reading.{received, receivedFrom}

@@ -1,5 +1,4 @@
 -- The ways that an event can go, each with what is known there.
--- Assumes nothing.
 use Rattle.octets.specs.Prelude.{_≡_, List, true, false, ℕ}
 use Rattle.octets.proofs.Truth.{by-test}
 use Rattle.page.proofs.Tests.{RefusedBy, by-tests}

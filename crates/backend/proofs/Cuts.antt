@@ -1,7 +1,5 @@
 -- How the guest cuts its octets into events makes no difference.
--- Assumes nothing.
-use Rattle.octets.specs.Prelude.{_≡_, refl, sym, ap, _∙_, List, [], _∷_, _++_, append-assoc, append-nil, true, false, ℕ, _^_, _≤_, _<_}
-use Rattle.octets.specs.Prelude.{arith}
+use Rattle.octets.specs.Prelude.{_≡_, refl, sym, ap, _∙_, List, [], _∷_, _++_, append-assoc, append-nil, true, false, ℕ, _^_, _≤_, _<_, arith}
 use Rattle.messages.specs.Settings.{maxQueues, settingsAtSetup}
 use Rattle.page.specs.Page.{requestsAt, responsesAt, less, octetsIn}
 use Rattle.ring.specs.Reading.{whole}

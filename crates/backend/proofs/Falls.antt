@@ -1,5 +1,4 @@
 -- The messages into which a stream falls.
--- Assumes nothing.
 use Rattle.octets.specs.Prelude.{_≡_, refl, sym, ap, cond, _∙_, List, [], _∷_, _++_, append-assoc, append-nil, Bool, true, false, ℕ, zero}
 use Rattle.octets.specs.Prelude.{suc, _+_, _≤_, arith, length, length-append, length-drop, take-append-drop, length-take-le, take-all}
 use Rattle.octets.specs.Prelude.{drop-at, le-leb, lt-leb, leb-true}

@@ -1,5 +1,4 @@
 -- Setup gives a good state, and so does every event on a good state.
--- Assumes nothing.
 use Rattle.octets.specs.Prelude.{_≡_, refl, _∙_, List, false, ℕ, _-_, _^_, _≤_, _<_, arith, length, ltb-false}
 use Rattle.messages.specs.Wire.{headerSize, maxPayload, typeIn, sizeIn}
 use Rattle.messages.specs.Requests.{maxAck}

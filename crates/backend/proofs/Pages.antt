@@ -1,10 +1,8 @@
 -- The page that an event leaves, and what of the page it does not look at.
--- Assumes nothing.
 use Rattle.octets.specs.Prelude.{_≡_, refl, _∙_, List, inl, inr, ℕ, _+_, _%_, _≤_, _<_, arith, length, getD, eqb, leb}
 use Rattle.octets.proofs.Truth.{same-test}
 use Rattle.messages.specs.Requests.{maxAck}
-use Rattle.page.specs.Page.{pageSize, areaSize, reqConsAt, reqProdAt, rspConsAt, rspProdAt, requestsAt, responsesAt, countIn, less, counted}
-use Rattle.page.specs.Page.{put}
+use Rattle.page.specs.Page.{pageSize, areaSize, reqConsAt, reqProdAt, rspConsAt, rspProdAt, requestsAt, responsesAt, countIn, less, counted, put}
 use Rattle.ring.specs.Reading.{whole, receivedFrom}
 use Rattle.ring.specs.Writing.{fitting, sentOctets, sent}
 use Rattle.ring.proofs.Sides.{sent-moves, sent-elsewhere}

@@ -1,5 +1,4 @@
 -- The ways of an event, as the definitions say them.
--- Assumes nothing.
 use Rattle.octets.specs.Prelude.{_≡_, refl, List, true, false, ℕ, _-_, _≤_, _<_, length, eq-eqb, ne-eqb, le-leb, lt-leb}
 use Rattle.page.specs.Refusals.{pageWrong, requestsWrong, responsesWrong}
 use Rattle.page.specs.Page.{pageSize, areaSize, counted}

@@ -1,6 +1,5 @@
 -- What readers ask of an event, over the definitions alone. The contract says that the call answers what `eventOf` says;
 -- these say what that means, sentence by sentence of document 01. (The refusals are in `Answers`.)
--- Assumes nothing.
 use Rattle.octets.specs.Prelude.{_≡_, refl, sym, ap, _∙_, List, _++_, true, false, false≢true, ℕ, _^_, _<_, arith, length}
 use Rattle.messages.specs.Wire.{typeIn, sizeIn, success}
 use Rattle.messages.specs.Requests.{ackStatus}

@@ -1,5 +1,4 @@
 -- What the theorems on an event speak of.
--- Assumes nothing.
 use Rattle.octets.specs.Prelude.{_≡_, List, _⊎_, true, false, ℕ, _+_, _-_, _%_, _≤_, _<_, length}
 use Rattle.page.specs.Page.{pageSize, areaSize, reqProdAt, rspProdAt, requestsAt, responsesAt}
 use Rattle.ring.specs.Reading.{whole}

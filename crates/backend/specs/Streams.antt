@@ -1,15 +1,12 @@
 -- Events one after the other: the stream of octets that they read, the messages into which it falls, and the acks.
--- Assumes nothing.
 use Rattle.octets.specs.Prelude.{_≡_, List, [], _∷_, _++_, cond, ℕ, zero, suc, _≤_, length, take, drop}
-use Rattle.messages.specs.Settings.{maxQueues, settingsAtSetup}
+use Rattle.messages.specs.Settings.{maxQueues, settingsAtSetup, Settings}
 use Rattle.messages.specs.Requests.{ackIn, carriedMessage}
-use Rattle.messages.specs.Settings.{Settings}
 use Rattle.page.specs.Page.{requestsAt, responsesAt, less, octetsIn}
 use Rattle.ring.specs.Reading.{messageLength}
 use Rattle.ring.specs.Streams.{beginsWhole, firstMessage, behindFirst, Holding}
-use Rattle.interface.specs.States.{interfaceAtSetup}
+use Rattle.interface.specs.States.{interfaceAtSetup, HostState}
 use Rattle.interface.specs.Events.{eventOf}
-use Rattle.interface.specs.States.{HostState}
 
 -- the messages into which a stream falls, at most n of them, and what is behind them
 unfoldable pub messagesWithin : ℕ → List ℕ → List (List ℕ)

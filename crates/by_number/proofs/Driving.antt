@@ -1,5 +1,4 @@
 -- What a call of the guest's end tells by its number, once its answer is known.
--- Assumes nothing.
 use Rattle.octets.specs.Prelude.{_≡_, ap, _∙_, List, ℕ}
 use Rattle.guest_steps.specs.Guest.{GuestState, toldNumber, toldOf}
 use Rattle.guest_steps.specs.Calls.{After, left, leftBy}

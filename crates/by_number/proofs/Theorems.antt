@@ -1,12 +1,10 @@
 -- What a reader wants of the exported calls, over their definitions.
--- Assumes nothing.
 use Rattle.octets.specs.Prelude.{_≡_, refl, ap, _∙_, List, Bool, true, false, cond, _&&_, ℕ, _<_, arith, leb, leb-true}
 use Rattle.octets.specs.Outcome.{value, refused, done, numberOf, placed, itself}
 use Rattle.octets.proofs.Truth.{both-true}
 use Rattle.messages.specs.Settings.{maxQueues}
-use Rattle.interface.specs.States.{Good, queuesWrong, interfaceAtSetup, setUpOutcome, steeredBy}
+use Rattle.interface.specs.States.{Good, queuesWrong, interfaceAtSetup, setUpOutcome, steeredBy, HostState}
 use Rattle.interface.specs.Events.{After, ackOwed, eventOf, left}
-use Rattle.interface.specs.States.{HostState}
 use Rattle.backend.proofs.Goodness.{good-interface}
 use Rattle.backend.proofs.Answers.{refused-leaves-all}
 use Rattle.interface.proofs.Queues.{good-queue}

@@ -1,5 +1,4 @@
 -- What the writer answered and left, as an exported call tells it.
--- Assumes nothing.
 use Rattle.octets.specs.Prelude.{_≡_, ap, _∙_, List, ℕ}
 use Rattle.octets.specs.Outcome.{Outcome, numberOf, placed, itself}
 use Rattle.guest_messages.specs.Writer.{After, written, writtenOutcomeOf, after}

@@ -1,6 +1,5 @@
 -- How a call tells what the call behind it answers: a number as its result, and values in places. A place that nothing is put
 -- into, as where a call is refused, is as it was before.
--- Assumes nothing.
 use Rattle.octets.specs.Prelude.{_≡_, List, ℕ}
 use Rattle.octets.specs.Outcome.{Outcome, numberOf, placed, itself}
 use Rattle.toeplitz.specs.TwoWay.{Verdict, agree, differAt}

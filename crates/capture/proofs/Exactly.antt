@@ -1,8 +1,6 @@
 -- The records of a capture are exactly those that its octets hold, one after the other behind the capture's header.
--- Assumes nothing.
-use Rattle.octets.specs.Prelude.{_≡_, refl, sym, ap, subst, _∙_, List, [], _∷_, _++_, true, _↔_, ℕ}
-use Rattle.octets.specs.Prelude.{_-_, arith, length, take, drop, length-append, length-drop, take-append-drop}
-use Rattle.octets.specs.Prelude.{length-take-le, drop-drop, take-at, drop-at, eqb, eqb-true}
+use Rattle.octets.specs.Prelude.{_≡_, refl, sym, ap, subst, _∙_, List, [], _∷_, _++_, true, _↔_, ℕ, _-_, arith, length, take, drop, length-append}
+use Rattle.octets.specs.Prelude.{length-drop, take-append-drop, length-take-le, drop-drop, take-at, drop-at, eqb, eqb-true}
 use Rattle.octets.specs.Outcome.{value}
 use Rattle.octets.proofs.Outcomes.{test-value}
 use Rattle.capture.specs.Header.{captureHeader, orderOf}

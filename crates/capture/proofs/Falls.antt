@@ -1,5 +1,4 @@
 -- The records into which octets fall: one after the other, whatever number of steps is allowed.
--- Assumes nothing.
 use Rattle.octets.specs.Prelude.{_≡_, refl, sym, ap, _∙_, List, true, false, cond, inr, ℕ, zero, suc, _+_, _-_, _≤_, arith}
 use Rattle.octets.specs.Prelude.{length, length-drop, leb-true}
 use Rattle.octets.proofs.Truth.{both-true, by-test}

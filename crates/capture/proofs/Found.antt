@@ -1,5 +1,4 @@
 -- What the step at a place of a capture says of the records from there on.
--- Assumes nothing.
 use Rattle.octets.specs.Prelude.{_≡_, refl, ap, _∙_, List, [], true, false, ℕ, _+_, _-_, _≤_, arith, length}
 use Rattle.octets.specs.Prelude.{take, drop, length-drop, drop-of-length-le, drop-drop, eqb, eqb-true}
 use Rattle.octets.specs.Outcome.{Outcome, value, refused}

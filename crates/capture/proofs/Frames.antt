@@ -1,5 +1,4 @@
 -- The IP packet in an Ethernet frame.
--- Assumes nothing.
 use Rattle.octets.specs.Prelude.{_≡_, refl, List, [], true, false, ℕ, _≤_, length, drop, leb-true}
 use Rattle.octets.proofs.Truth.{both-true}
 use Rattle.capture.specs.Packets.{ethernetHeader, holdsIp, ipPart}

@@ -1,5 +1,4 @@
 -- What the header of a capture is found to be, test by test.
--- Assumes nothing.
 use Rattle.octets.specs.Prelude.{_≡_, refl, List, true, false, ℕ, _≤_, _<_, length, le-leb, lt-leb}
 use Rattle.octets.specs.Outcome.{refused}
 use Rattle.capture.specs.Header.{headerWrong, captureHeader, numberIn, orderOf, isClassic, linkOutcome, headerOutcome}

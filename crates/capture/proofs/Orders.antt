@@ -1,5 +1,4 @@
 -- Laws of numbers in either order of octets.
--- Assumes nothing.
 use Rattle.octets.specs.Prelude.{_≡_, refl, ap₂, List, _++_, ℕ, zero, suc, _+_, _*_, _^_, _≤_, _<_, add-zero, add-assoc, arith}
 use Rattle.octets.specs.Prelude.{length, getD, take, drop, List·getD-append, getD-take, getD-drop}
 use Rattle.octets.specs.Numbers.{numberAt}

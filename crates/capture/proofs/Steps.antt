@@ -1,5 +1,4 @@
 -- What stands at a place of a capture, by the lengths there.
--- Assumes nothing.
 use Rattle.octets.specs.Prelude.{_≡_, refl, sym, ap, _∙_, List, true, false, _&&_, _⊎_, inl, inr, ℕ, _+_, _-_, _≤_, _<_, arith}
 use Rattle.octets.specs.Prelude.{length, drop, length-drop, leb, le-leb, lt-leb, eq-eqb, ne-eqb}
 use Rattle.octets.specs.Outcome.{value, refused}

@@ -1,9 +1,6 @@
 -- What readers ask of captures, over the definitions alone.
--- Assumes nothing.
-use Rattle.octets.specs.Prelude.{_≡_, List, ℕ, _+_, _*_, _≤_, arith, length, length-drop}
-use Rattle.octets.specs.Prelude.{drop, length-take-le}
-use Rattle.capture.specs.Records.{recordHeader, capturedLength, firstRecord}
-use Rattle.capture.specs.Records.{Fall, fallOf, capturedOctets}
+use Rattle.octets.specs.Prelude.{_≡_, List, ℕ, _+_, _*_, _≤_, arith, length, length-drop, drop, length-take-le}
+use Rattle.capture.specs.Records.{recordHeader, capturedLength, firstRecord, Fall, fallOf, capturedOctets}
 use Rattle.capture.specs.declared.Order.{Order}
 use Rattle.capture.proofs.Falls.{begins-fits, fall-ways}
 

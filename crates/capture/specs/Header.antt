@@ -2,7 +2,6 @@
 --   0 magic number (4)   4 major version (2)   6 minor version (2)   8 time zone (4)   12 accuracy (4)
 --   16 snapshot length (4)   20 link type (4)
 -- Its numbers, and those of every record's header, are in the order in which the magic number was written.
--- Assumes nothing.
 use Rattle.octets.specs.Prelude.{List, Bool, cond, _&&_, ℕ, zero, suc, _+_, _*_, _^_, length, getD, eqb, leb}
 use Rattle.octets.specs.Outcome.{Outcome, value, refused}
 use Rattle.octets.specs.Numbers.{numberAt}

@@ -1,5 +1,4 @@
 -- The IP packet in a record.
--- Assumes nothing.
 use Rattle.octets.specs.Prelude.{List, [], Bool, cond, _&&_, _||_, ℕ, length, drop, eqb, leb}
 use Rattle.capture.specs.Header.{bigEndianAt}
 use Rattle.capture.specs.declared.Link.{Link}

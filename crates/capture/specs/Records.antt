@@ -1,7 +1,6 @@
 -- The records of a capture, one after the other behind its header. A record is a header of 16 octets and then the
 -- captured octets:
 --   0 seconds (4)   4 microseconds (4)   8 captured length (4)   12 original length (4)   16 captured octets
--- Assumes nothing.
 use Rattle.octets.specs.Prelude.{_≡_, List, [], _∷_, _++_, Bool, cond, _&&_, ℕ, zero, suc, _+_, _≤_, length, take, drop, eqb, leb}
 use Rattle.octets.specs.Outcome.{Outcome, value, refused}
 use Rattle.capture.specs.Header.{captureHeader, numberIn, orderOf}

@@ -1,5 +1,4 @@
 -- Where the body of a case stands.
--- Assumes nothing.
 use Rattle.octets.specs.Prelude.{ℕ, _≤_, _<_}
 use Rattle.cases.specs.declared.Case.{Case}
 use Rattle.cases.specs.declared.Case.the-variants.{Body, Cut}

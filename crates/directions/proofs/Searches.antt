@@ -1,5 +1,4 @@
 -- What the two searches of `two_way` say of the verdict.
--- Assumes nothing.
 use Rattle.octets.specs.Prelude.{_≡_, sym, ap, _∙_, List, ℕ, _+_, _*_, _-_, _≤_, _<_, decLt, arith}
 use Rattle.toeplitz.specs.Hash.{windowAt}
 use Rattle.toeplitz.specs.TwoWay.{inputSize, addressSize, portSize, tellsApart, agree, differAt, verdict}

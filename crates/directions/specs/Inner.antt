@@ -1,5 +1,4 @@
 -- What the search for a difference promises. Nothing here is needed to read the promise of the call.
--- Assumes nothing.
 use Rattle.octets.specs.Prelude.{_≡_, List, ℕ, _+_, _<_}
 use Rattle.toeplitz.specs.Hash.{windowAt}
 use Rattle.directions.specs.declared.Found.{Found}

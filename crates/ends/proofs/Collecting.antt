@@ -1,5 +1,4 @@
 -- The guest's turn at the ack: it reads the whole of it, and is idle again.
--- Assumes nothing.
 use Rattle.octets.specs.Prelude.{_≡_, refl, sym, ap, ap₂, subst, _∙_, List, [], _++_, inl, inr, false, ℕ, _+_, _-_, arith, length}
 use Rattle.octets.specs.Prelude.{List·getD-append, le-ltb}
 use Rattle.octets.specs.Outcome.{value}
@@ -9,16 +8,14 @@ use Rattle.messages.specs.Requests.{requestOf, ackIn, carriedMessage}
 use Rattle.messages.specs.Settings.{Settings}
 use Rattle.messages.proofs.Theorems.{ack-carries-status}
 use Rattle.page.specs.Page.{reqConsAt, rspProdAt, responsesAt, less, advanced, octetsIn}
-use Rattle.ring.specs.Reading.{messageLength, received, receivedFrom}
-use Rattle.ring.specs.Reading.{Message}
+use Rattle.ring.specs.Reading.{messageLength, received, receivedFrom, Message}
 use Rattle.ring.proofs.Turns.{parts}
 use Rattle.ring.proofs.Sides.{less-advanced}
 use Rattle.page.proofs.Untouched.{guest-counted-length, guest-counted-others}
 use Rattle.interface.specs.States.{Good as GoodHost}
 use Rattle.guest_messages.specs.Reader.{answerTo, readAck}
-use Rattle.guest_steps.specs.Guest.{idle, acked, incoming, owes, Good as GoodGuest}
+use Rattle.guest_steps.specs.Guest.{idle, acked, incoming, owes, Good as GoodGuest, GuestState}
 use Rattle.guest_steps.specs.Calls.{After, unreadRequests, unreadAcks, answeredWith, judged, seen, doneWith, concluded, readOn, eventOf}
-use Rattle.guest_steps.specs.Guest.{GuestState}
 use Rattle.guest_messages.proofs.Theorems.{reader-accepts-ack}
 use Rattle.ends.specs.Ends.{Ends, afterGuest, guestEvent, answerOf, Agree}
 use Rattle.ends.proofs.Points.{Answered}

@@ -1,19 +1,15 @@
 -- The host's turn: it reads on, or it carries the request out and writes the whole ack.
--- Assumes nothing.
-use Rattle.octets.specs.Prelude.{_≡_, refl, sym, ap, ap₂, subst, _∙_, List, [], _++_, true, false, ℕ, _+_, _-_, _≤_}
-use Rattle.octets.specs.Prelude.{_<_, arith, length, take, drop, length-take-le, take-all, take-add, ltb, eq-eqb, le-leb, lt-leb}
-use Rattle.octets.specs.Prelude.{le-ltb, ltb-true, ltb-false}
+use Rattle.octets.specs.Prelude.{_≡_, refl, sym, ap, ap₂, subst, _∙_, List, [], _++_, true, false, ℕ, _+_, _-_, _≤_, _<_, arith, length, take, drop}
+use Rattle.octets.specs.Prelude.{length-take-le, take-all, take-add, ltb, eq-eqb, le-leb, lt-leb, le-ltb, ltb-true, ltb-false}
 use mathlib.Core.Path.{subst₂}
 use Rattle.octets.proofs.Truth.{by-test}
 use Rattle.messages.specs.Wire.{headerSize, typeIn, sizeIn}
-use Rattle.messages.specs.Requests.{ackIn, carriedMessage}
-use Rattle.messages.specs.Requests.{Carried}
+use Rattle.messages.specs.Requests.{ackIn, carriedMessage, Carried}
 use Rattle.messages.proofs.Theorems.{ack-fits}
 use Rattle.page.specs.Page.{pageSize, areaSize, requestsAt, responsesAt, less, advanced, octetsIn, put}
 use Rattle.ring.specs.Reading.{messageLength, whole, received, receivedFrom}
-use Rattle.ring.specs.Writing.{fitting, sentOctets}
+use Rattle.ring.specs.Writing.{fitting, sentOctets, Outgoing}
 use Rattle.ring.specs.Streams.{beginsWhole, presentPart, Holding}
-use Rattle.ring.specs.Writing.{Outgoing}
 use Rattle.page.proofs.Places.{put-length}
 use Rattle.page.proofs.Untouched.{counted-length, counted-octets, counted-cons, counted-prod, put-stands}
 use Rattle.ring.proofs.Sides.{less-advanced}

@@ -1,8 +1,6 @@
 -- Messages of the writer, and acks, as whole messages that are read.
--- Assumes nothing.
-use Rattle.octets.specs.Prelude.{_≡_, refl, sym, ap, ap₂, _∙_, List, [], _++_, true, false, _||_, ℕ, _+_, _-_, _^_}
-use Rattle.octets.specs.Prelude.{_≤_, _<_, zero-add, arith, length, take, drop, length-append, length-drop, take-append-drop}
-use Rattle.octets.specs.Prelude.{sets, sets-eq, length-take-le, take-at, eqb, leb, le-leb}
+use Rattle.octets.specs.Prelude.{_≡_, refl, sym, ap, ap₂, _∙_, List, [], _++_, true, false, _||_, ℕ, _+_, _-_, _^_, _≤_, _<_, zero-add, arith, length}
+use Rattle.octets.specs.Prelude.{take, drop, length-append, length-drop, take-append-drop, sets, sets-eq, length-take-le, take-at, eqb, leb, le-leb}
 use Rattle.octets.specs.Numbers.{octetsOf}
 use Rattle.octets.specs.Outcome.{Outcome, value}
 use Rattle.octets.proofs.Truth.{by-test}
@@ -11,9 +9,8 @@ use Rattle.octets.proofs.Copies.{sets-all}
 use Rattle.octets.proofs.Numbers.{length-octets}
 use Rattle.toeplitz.specs.Hash.{keyLength}
 use Rattle.messages.specs.Wire.{headerSize, fieldSize, message, sizeIn, ackType, getFlagsType, setFlagsType, setKeyType, setMappingType, allFlags, success}
-use Rattle.messages.specs.Settings.{isListed}
+use Rattle.messages.specs.Settings.{isListed, Settings}
 use Rattle.messages.specs.Requests.{Request, requestOf, statusOf, carriesFlags, ackPayload, ackIn, carriedOut}
-use Rattle.messages.specs.Settings.{Settings}
 use Rattle.messages.proofs.Parts.{message-is, length-message, size-header}
 use Rattle.messages.proofs.AckOctets.{payload-short}
 use Rattle.messages.proofs.Theorems.{ack-is}

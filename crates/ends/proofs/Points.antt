@@ -1,12 +1,10 @@
 -- Where the two ends stand between their turns, while a request is under way.
--- Assumes nothing.
 use Rattle.octets.specs.Prelude.{_≡_, List, _++_, false, ℕ, _-_, _^_, _<_, length, take, drop}
 use Rattle.messages.specs.Wire.{headerSize}
 use Rattle.page.specs.Page.{pageSize, reqConsAt, reqProdAt, rspConsAt, rspProdAt, requestsAt, responsesAt, countIn, advanced, octetsIn}
 use Rattle.ring.specs.Streams.{Holding}
 use Rattle.interface.specs.Events.{owes as hostOwes}
-use Rattle.guest_steps.specs.Guest.{maxAckPayload, outstanding}
-use Rattle.guest_steps.specs.Guest.{GuestState}
+use Rattle.guest_steps.specs.Guest.{maxAckPayload, outstanding, GuestState}
 use Rattle.ends.specs.Ends.{Ends}
 
 -- the guest has written n octets of the request m, and read nothing of an ack

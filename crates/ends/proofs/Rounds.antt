@@ -1,5 +1,4 @@
 -- Rounds of a request under way: one in which the rest of it is written, and the last, in which it is answered.
--- Assumes nothing.
 use Rattle.octets.specs.Prelude.{_≡_, List, [], ℕ, _+_, _-_, _≤_, _<_, arith, length}
 use Rattle.messages.specs.Requests.{carriedMessage}
 use Rattle.page.specs.Page.{areaSize}

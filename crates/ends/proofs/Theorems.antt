@@ -1,5 +1,4 @@
 -- The two ends together: every request that the writer accepts is answered as carrying it out says, one after the other.
--- Assumes nothing.
 use Rattle.octets.specs.Prelude.{_≡_, refl, ap, ap₂, _∙_, List, [], _∷_, Bool, true, false, cond, ℕ, _+_, _≤_, _<_, arith, length}
 use Rattle.octets.specs.Prelude.{replicate, length-replicate, leb, leb-true, leb-false}
 use lib.ListN.{getD-replicate}
@@ -7,9 +6,8 @@ use Rattle.octets.specs.Outcome.{value}
 use Rattle.octets.specs.Numbers.{numberAt}
 use Rattle.octets.proofs.Numbers.{number-same}
 use Rattle.octets.proofs.Outcomes.{value-same}
-use Rattle.messages.specs.Settings.{maxQueues}
+use Rattle.messages.specs.Settings.{maxQueues, Settings}
 use Rattle.messages.specs.Requests.{carriedMessage}
-use Rattle.messages.specs.Settings.{Settings}
 use Rattle.page.specs.Page.{pageSize, areaSize, reqConsAt, rspProdAt, countIn}
 use Rattle.ring.specs.Reading.{messageLength}
 use Rattle.backend.specs.Streams.{settingsAfter}

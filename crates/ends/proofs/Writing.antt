@@ -1,18 +1,15 @@
 -- What the guest finds on the page, and a request that it writes.
--- Assumes nothing.
-use Rattle.octets.specs.Prelude.{_≡_, refl, sym, ap, ap₂, subst, _∙_, List, true, false, ℕ, _+_, _-_, _≤_, _<_, min, arith}
-use Rattle.octets.specs.Prelude.{length, take, drop, length-drop, length-take-le, take-append-le, drop-append-le, eqb, eq-eqb}
-use Rattle.octets.specs.Prelude.{le-leb, lt-ltb, le-ltb}
+use Rattle.octets.specs.Prelude.{_≡_, refl, sym, ap, ap₂, subst, _∙_, List, true, false, ℕ, _+_, _-_, _≤_, _<_, min, arith, length, take, drop}
+use Rattle.octets.specs.Prelude.{length-drop, length-take-le, take-append-le, drop-append-le, eqb, eq-eqb, le-leb, lt-ltb, le-ltb}
 use Rattle.octets.specs.Outcome.{value}
 use Rattle.page.specs.Page.{pageSize, areaSize, requestsAt, advanced, octetsIn, put}
 use Rattle.ring.specs.Writing.{fitting, sentOctets}
 use Rattle.page.proofs.Places.{put-length}
 use Rattle.ring.proofs.Holdings.{holding-none}
 use Rattle.page.proofs.Untouched.{put-stands, guest-counted-length, guest-counted-octets, guest-counted-cons, guest-counted-prod}
-use Rattle.guest_steps.specs.Guest.{idle, outstanding, failed, outgoing, owes, number, pending}
+use Rattle.guest_steps.specs.Guest.{idle, outstanding, failed, outgoing, owes, number, pending, GuestState}
 use Rattle.guest_steps.specs.Calls.{After, unreadRequests, unreadAcks, Found, found, wroteOn, begun, startedBy, readied, startBy, startOf}
 use Rattle.guest_steps.specs.Calls.{readOn, eventBy, eventOf}
-use Rattle.guest_steps.specs.Guest.{GuestState}
 use Rattle.ends.specs.Ends.{Ends, Agree, afterGuest, guestEvent, started}
 use Rattle.ends.proofs.Points.{Ready, Sent}
 

@@ -1,13 +1,11 @@
 -- What the stages of an event did, as the definitions say it.
--- Assumes nothing.
 use Rattle.octets.specs.Prelude.{_≡_, refl, ap, List, cond, ℕ, _+_, ltb}
 use Rattle.messages.specs.Requests.{Carried}
 use Rattle.page.specs.Page.{requestsAt, responsesAt, advanced, counted, put}
 use Rattle.ring.specs.Reading.{Incoming, receivedFrom}
 use Rattle.ring.specs.Writing.{fitting, sentOctets, sent}
 use Rattle.interface.specs.States.{HostState}
-use Rattle.interface.specs.Events.{ackWritten, ackOwed, withIncoming, withOutgoing}
-use Rattle.interface.specs.Events.{responded, readIn, carriedIn, carriedOver, left}
+use Rattle.interface.specs.Events.{ackWritten, ackOwed, withIncoming, withOutgoing, responded, readIn, carriedIn, carriedOver, left}
 
 -- the state with what a request carried out gives
 abbrev pub over : HostState → Carried → HostState

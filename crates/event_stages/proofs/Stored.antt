@@ -1,5 +1,4 @@
 -- The numbers of an interface stored at their places: what is then held is the state with those numbers.
--- Assumes nothing.
 use Rattle.octets.specs.Prelude.{_≡_, refl, List, cond, ℕ, _+_, length, getD, set, ltb}
 use Rattle.octets.proofs.Lengths.{by-length}
 use Rattle.messages.specs.Settings.{settingsOf}

@@ -1,5 +1,4 @@
 -- What the functions that collect an ack did, as the definitions say it.
--- Assumes nothing.
 use Rattle.octets.specs.Prelude.{_≡_, refl, List, true, false, ℕ, eq-eqb, ne-eqb}
 use Rattle.octets.specs.Outcome.{value, refused}
 use Rattle.messages.specs.Wire.{typeIn}
@@ -8,8 +7,7 @@ use Rattle.ring.specs.Reading.{receivedFrom, Incoming}
 use Rattle.guest_messages.specs.Refusals.{notAnAck}
 use Rattle.guest_messages.specs.Reader.{Reading}
 use Rattle.guest_steps.specs.Guest.{idle, failed, incoming, withIncoming, owes, acked, toldOf, GuestState}
-use Rattle.guest_steps.specs.Calls.{Found, found, refusedWith, wroteOn, Seen, part, judged, seen, doneWith, concluded, readOn, eventBy}
-use Rattle.guest_steps.specs.Calls.{eventOf, left}
+use Rattle.guest_steps.specs.Calls.{Found, found, refusedWith, wroteOn, Seen, part, judged, seen, doneWith, concluded, readOn, eventBy, eventOf, left}
 use Rattle.guest_steps.specs.declared.Refusal.the-variants.{AckRefused}
 use Rattle.guest_steps.specs.declared.GuestAnswer.{GuestAnswer}
 use Rattle.guest_steps.specs.declared.GuestAnswer.the-variants.{Pending, Refused}

@@ -1,5 +1,4 @@
 -- Setup gives a good guest, and so does every call on a good one.
--- Assumes nothing.
 use Rattle.octets.specs.Prelude.{_≡_, refl, sym, ap, subst, _∙_, List, _++_, false, ℕ, _^_, _≤_, _<_, arith, length, drop, length-append}
 use Rattle.octets.specs.Prelude.{length-drop, eqb, leb, eqb-true, ltb-false}
 use Rattle.octets.specs.Numbers.{octetsOf}

@@ -1,5 +1,4 @@
 -- Which number a call of the guest's end answers, each exactly where its condition holds, over the definitions alone.
--- Assumes nothing.
 use Rattle.octets.specs.Prelude.{_≡_, refl, sym, ap, _∙_, List, _↔_, Bool, true, false, cond, false≢true, ℕ, _≤_, _<_, arith, length, eqb}
 use Rattle.octets.specs.Outcome.{Outcome, value, refused}
 use Rattle.octets.proofs.Truth.{chain, neither, beside}

@@ -1,5 +1,4 @@
 -- The page under the guest's calls: what is written, what is left, and what is read.
--- Assumes nothing.
 use Rattle.octets.specs.Prelude.{_≡_, refl, sym, ap, subst, _∙_, List, inl, inr, ℕ, _+_, _≤_, _<_, arith, length, getD, eqb}
 use Rattle.octets.specs.Outcome.{Outcome, value, refused}
 use Rattle.octets.proofs.Truth.{same-test}
@@ -12,8 +11,7 @@ use Rattle.ring.proofs.Sides.{sent-moves, sent-elsewhere, sent-stands}
 use Rattle.page.proofs.Places.{octets-none, put-length}
 use Rattle.page.proofs.Untouched.{guest-counted-beside, guest-counted-length, guest-counted-cons, guest-counted-prod, guest-counted-others}
 use Rattle.page.proofs.Untouched.{guest-counted-octets, octets-agree}
-use Rattle.guest_steps.specs.Guest.{GuestState, idle, maxRequest, outgoing, withOutgoing, owes, number, pending, requestOwed, toldNumber}
-use Rattle.guest_steps.specs.Guest.{Good}
+use Rattle.guest_steps.specs.Guest.{GuestState, idle, maxRequest, outgoing, withOutgoing, owes, number, pending, requestOwed, toldNumber, Good}
 use Rattle.guest_steps.specs.Calls.{After, Found, found, unreadRequests, unreadAcks, answeredWith, begun, wroteOn, startedBy, readied}
 use Rattle.guest_steps.specs.Calls.{startBy, startOf, Seen, concluded, readOn, eventBy, eventOf}
 use Rattle.frontend.specs.Rules.{Asked, Accepted, room, afterReading, NoOwnCount, moved, RequestPlace, WritesNext, Alike}

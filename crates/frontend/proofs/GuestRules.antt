@@ -1,5 +1,4 @@
 -- What readers ask of the guest's end, over the definitions of its calls alone.
--- Assumes nothing.
 use Rattle.octets.specs.Prelude.{_≡_, refl, sym, ap, _∙_, List, true, false, false≢true, ℕ, _+_, _≤_, _<_, arith, eq-eqb, ne-eqb, le-leb}
 use Rattle.octets.specs.Outcome.{Outcome, value, refused}
 use Rattle.messages.specs.Wire.{headerSize, fieldSize, typeIn, sizeIn}

@@ -1,5 +1,4 @@
 -- What a start does, by what it finds and by what the writer answers.
--- Assumes nothing.
 use Rattle.octets.specs.Prelude.{_≡_, refl, sym, ap, _∙_, List, _++_, ℕ, _+_, _-_, _≤_, _<_, arith, length, drop, eqb, leb, leb-false}
 use Rattle.octets.specs.Outcome.{Outcome, value, refused}
 use Rattle.octets.proofs.Outcomes.{value-same, refused-same, value-not-refused, test-value}

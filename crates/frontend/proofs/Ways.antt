@@ -1,5 +1,4 @@
 -- The ways that a call of the guest's end can go, each with what is known there.
--- Assumes nothing.
 use Rattle.octets.specs.Prelude.{_≡_, refl, List, true, false, ℕ, _≤_, _<_, arith, length, eqb, eqb-true, eqb-false}
 use Rattle.octets.specs.Outcome.{Outcome, value, refused}
 use Rattle.octets.proofs.Truth.{by-test}

@@ -1,17 +1,14 @@
 -- What the theorems on the guest's calls speak of.
--- Assumes nothing.
 use Rattle.octets.specs.Prelude.{_≡_, List, _⊎_, true, false, ℕ, _+_, _-_, _%_, _≤_, _<_, length}
 use Rattle.octets.specs.Outcome.{Outcome, refused}
 use Rattle.messages.specs.Wire.{typeIn}
 use Rattle.page.specs.Page.{pageSize, areaSize, reqProdAt, rspProdAt, requestsAt, responsesAt, less, octetsIn}
-use Rattle.ring.specs.Reading.{receivedFrom}
+use Rattle.ring.specs.Reading.{receivedFrom, Incoming}
 use Rattle.ring.specs.Writing.{sentOctets}
-use Rattle.ring.specs.Reading.{Incoming}
 use Rattle.guest_messages.specs.Refusals.{notAnAck}
 use Rattle.guest_messages.specs.Writer.{getFlagsMessage, setFlagsMessage, setKeyMessage, setMappingMessage}
-use Rattle.guest_steps.specs.Guest.{idle, outstanding, failed, guestAtSetup, outgoing, incoming, owes}
+use Rattle.guest_steps.specs.Guest.{idle, outstanding, failed, guestAtSetup, outgoing, incoming, owes, GuestState}
 use Rattle.guest_steps.specs.Calls.{After, unreadRequests, unreadAcks, startOf, Seen, part, judged, seen, eventOf}
-use Rattle.guest_steps.specs.Guest.{GuestState}
 
 -- a request that a start is for: the writer's message, or its refusal
 pub data Asked : Outcome (List ℕ) → Type 0 where

@@ -1,5 +1,4 @@
 -- Which messages the reader accepts, and what it answers then.
--- Assumes nothing.
 use Rattle.octets.specs.Prelude.{_≡_, refl, sym, ap, _∙_, _↔_, List, Bool, true, false, false≢true, ℕ, _+_, _-_, _≤_, _<_}
 use Rattle.octets.specs.Prelude.{arith, length, eqb, leb, eq-eqb, eqb-true, le-leb, lt-leb, leb-true}
 use Rattle.octets.specs.Outcome.{Outcome, value, refused}

@@ -1,7 +1,5 @@
 -- What the host answers, the reader accepts.
--- Assumes nothing.
-use Rattle.octets.specs.Prelude.{_≡_, refl, sym, ap, ap₂, _∙_, List, Bool, true, false, cond, ℕ, _+_, _≤_, arith, length, eq-eqb}
-use Rattle.octets.specs.Prelude.{le-leb}
+use Rattle.octets.specs.Prelude.{_≡_, refl, sym, ap, ap₂, _∙_, List, Bool, true, false, cond, ℕ, _+_, _≤_, arith, length, eq-eqb, le-leb}
 use Rattle.octets.specs.Numbers.{numberAt, octetsOf}
 use Rattle.octets.specs.Outcome.{value}
 use Rattle.octets.proofs.Numbers.{length-octets, number-octets-alone}

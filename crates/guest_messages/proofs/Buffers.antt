@@ -1,9 +1,7 @@
 -- What stands in the output buffer after a header and a payload are written into it.
--- Assumes nothing.
-use Rattle.octets.specs.Prelude.{_≡_, refl, sym, ap, ap₂, _∙_, List, [], _∷_, _++_, append-assoc, append-nil, ℕ, _+_, _*_, _≤_}
-use Rattle.octets.specs.Prelude.{_<_, zero-add, add-one, arith, length, getD, take, drop, length-append, drop-of-length-le}
-use Rattle.octets.specs.Prelude.{take-append-drop, sets, sets-eq, take-at, drop-at, drop-drop, take-all, length-take-le, le-leb}
-use Rattle.octets.specs.Prelude.{lt-leb}
+use Rattle.octets.specs.Prelude.{_≡_, refl, sym, ap, ap₂, _∙_, List, [], _∷_, _++_, append-assoc, append-nil, ℕ, _+_, _*_, _≤_, _<_, zero-add}
+use Rattle.octets.specs.Prelude.{add-one, arith, length, getD, take, drop, length-append, drop-of-length-le, take-append-drop, sets, sets-eq, take-at}
+use Rattle.octets.specs.Prelude.{drop-at, drop-drop, take-all, length-take-le, le-leb, lt-leb}
 use lib.Seq.{take-suc}
 use Rattle.octets.specs.Numbers.{octetsOf}
 use Rattle.octets.specs.Outcome.{value, refused}

@@ -1,5 +1,4 @@
 -- What the reader accepts is the one encoding of what it answers.
--- Assumes nothing.
 use Rattle.octets.specs.Prelude.{_≡_, refl, sym, ap, ap₂, _∙_, List, _++_, Bool, true, false, cond, ℕ, _+_, arith, length, take}
 use Rattle.octets.specs.Prelude.{drop, length-drop, take-append-drop, take-all, drop-drop}
 use Rattle.octets.specs.Numbers.{AreOctets, octetsOf}

@@ -1,7 +1,5 @@
 -- Fields written one after the other are the entries that the host reads.
--- Assumes nothing.
-use Rattle.octets.specs.Prelude.{_≡_, refl, List, [], _∷_, _++_, append-assoc, ℕ, suc, _^_, arith, length}
-use Rattle.octets.specs.Prelude.{drop-at}
+use Rattle.octets.specs.Prelude.{_≡_, refl, List, [], _∷_, _++_, append-assoc, ℕ, suc, _^_, arith, length, drop-at}
 use Rattle.octets.proofs.Numbers.{length-octets, number-octets}
 use Rattle.messages.specs.Wire.{fieldSize}
 use Rattle.messages.specs.Settings.{EachBelow}

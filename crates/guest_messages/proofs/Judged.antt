@@ -1,16 +1,13 @@
 -- What the writer writes, the host judges by its content: each request's message carried out.
--- Assumes nothing.
-use Rattle.octets.specs.Prelude.{_≡_, refl, sym, ap, _∙_, List, [], _++_, true, cond, ℕ, _*_, _/_, _%_, _^_, _≤_}
-use Rattle.octets.specs.Prelude.{arith, length, take-at}
+use Rattle.octets.specs.Prelude.{_≡_, refl, sym, ap, _∙_, List, [], _++_, true, cond, ℕ, _*_, _/_, _%_, _^_, _≤_, arith, length, take-at}
 use Rattle.octets.specs.Numbers.{numberAt, octetsOf}
 use Rattle.octets.proofs.Numbers.{length-octets, number-octets}
 use Rattle.octets.proofs.Truth.{by-test}
 use Rattle.toeplitz.specs.Hash.{keyLength}
 use Rattle.messages.specs.Wire.{fieldSize, message, getFlagsType, setFlagsType, setKeyType, setMappingType, success, invalidParameter, allFlags}
-use Rattle.messages.specs.Settings.{maxEntries, isPowerOfTwo, isListed, EachBelow, mappingOf}
+use Rattle.messages.specs.Settings.{maxEntries, isPowerOfTwo, isListed, EachBelow, mappingOf, Settings}
 use Rattle.messages.specs.Requests.{setMapping, requestOf, entriesIn, allBelow, withFlags, withKey}
 use Rattle.messages.specs.Requests.{withMapping, answered, answeredFlags, carriedBy, carriedMessage}
-use Rattle.messages.specs.Settings.{Settings}
 use Rattle.messages.proofs.Powers.{listed-parts}
 use Rattle.messages.proofs.Parts.{carried-message}
 use Rattle.messages.proofs.Statuses.{get-flags-done, set-flags-done, set-key-done, set-mapping-entry, set-mapping-done}

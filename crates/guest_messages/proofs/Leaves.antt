@@ -1,5 +1,4 @@
 -- What a call of the writer leaves, by its answer; and when it refuses.
--- Assumes nothing.
 use Rattle.octets.specs.Prelude.{_≡_, refl, sym, ap, _∙_, _↔_, List, Bool, true, false, cond, false≢true, ℕ, _≤_, _<_, length}
 use Rattle.octets.specs.Prelude.{take, drop, take-append-seam, decLt, arith}
 use lib.Seq.{drop-append-seam}

@@ -1,5 +1,4 @@
 -- What readers ask of the guest's writer and ack reader, and of the two ends together, over the definitions alone.
--- Assumes nothing.
 use Rattle.octets.specs.Prelude.{_≡_, refl, sym, ap, _∙_, _↔_, List, [], Bool, true, false, cond, false≢true, ℕ, _+_, _*_, _^_, _<_, arith}
 use Rattle.octets.specs.Prelude.{length, take, drop, eqb, leb, ne-eqb, eqb-true, eqb-false, lt-leb, leb-true, leb-false}
 use Rattle.octets.specs.Numbers.{AreOctets, octetsOf}
@@ -10,10 +9,9 @@ use Rattle.octets.proofs.Outcomes.{value-same, test-value}
 use Rattle.toeplitz.specs.Hash.{keyLength}
 use Rattle.toeplitz.specs.Refusals.{keyLengthWrong}
 use Rattle.messages.specs.Wire.{fieldSize, message, getFlagsType, setFlagsType, setKeyType, setMappingType, success, invalidParameter, allFlags}
-use Rattle.messages.specs.Settings.{isListed, EachBelow, tableOf, mappingOf}
+use Rattle.messages.specs.Settings.{isListed, EachBelow, tableOf, mappingOf, Settings}
 use Rattle.messages.specs.Requests.{requestOf, allBelow, statusOf, ackIn, ackStatus}
 use Rattle.messages.specs.Requests.{withFlags, withKey, withMapping, answered, answeredFlags, carriedOut, carriedMessage}
-use Rattle.messages.specs.Settings.{Settings}
 use Rattle.messages.proofs.Parts.{length-message}
 use Rattle.messages.proofs.Statuses.{status-most}
 use Rattle.messages.proofs.Tables.{all-below-exactly}

@@ -1,5 +1,4 @@
 -- The guest's ack reader.
--- Assumes nothing.
 use Rattle.octets.specs.Prelude.{List, _++_, Bool, true, cond, _&&_, ℕ, _+_, length, eqb, leb}
 use Rattle.octets.specs.Numbers.{octetsOf}
 use Rattle.octets.specs.Outcome.{Outcome, value, refused}

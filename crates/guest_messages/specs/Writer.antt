@@ -1,5 +1,4 @@
 -- The guest's message writer: the four requests, and what it answers and leaves in the output buffer.
--- Assumes nothing.
 use Rattle.octets.specs.Prelude.{List, [], _∷_, _++_, cond, ℕ, length, drop, eqb, leb}
 use Rattle.octets.specs.Numbers.{octetsOf}
 use Rattle.octets.specs.Outcome.{Outcome, value, refused}

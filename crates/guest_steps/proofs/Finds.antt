@@ -1,5 +1,4 @@
 -- What a call finds on the page, by its tests, and what a start finds; and octets of the request written on.
--- Assumes nothing.
 use Rattle.octets.specs.Prelude.{_≡_, refl, ap, _∙_, List, Bool, true, false, cond, ℕ, _+_, _-_, _≤_, _<_, length, getD, set, ltb}
 use Rattle.octets.specs.Prelude.{eq-eqb, ne-eqb, le-leb, lt-leb}
 use Rattle.octets.specs.Outcome.{Outcome, value, refused}

@@ -1,5 +1,4 @@
 -- The numbers of a guest stored at their places: what is then held is the guest with those numbers.
--- Assumes nothing.
 use Rattle.octets.specs.Prelude.{_≡_, refl, ap, _∙_, List, ℕ, length, getD, set}
 use Rattle.octets.proofs.Lengths.{by-length}
 use Rattle.ring.specs.Writing.{outgoingOf}

@@ -1,21 +1,17 @@
 -- The calls of the guest's end, a start for each request and the event: the answer, the state and every octet of the page.
--- Assumes nothing.
 use Rattle.octets.specs.Prelude.{List, _++_, Bool, not, cond, _&&_, _||_, ℕ, _+_, _-_, length, take, drop, eqb, leb}
 use Rattle.octets.specs.Outcome.{Outcome, value, refused}
 use Rattle.messages.specs.Wire.{headerSize, fieldSize, typeIn, sizeIn}
 use Rattle.page.specs.Refusals.{pageWrong, requestsWrong, responsesWrong}
 use Rattle.page.specs.Page.{pageSize, areaSize, reqConsAt, rspProdAt, requestsAt, responsesAt, countIn, less, countedByGuest, put}
-use Rattle.ring.specs.Reading.{whole, receivedFrom}
+use Rattle.ring.specs.Reading.{whole, receivedFrom, Message, Incoming}
 use Rattle.ring.specs.Writing.{fitting, sentOctets, sent}
-use Rattle.ring.specs.Reading.{Message}
-use Rattle.ring.specs.Reading.{Incoming}
 use Rattle.guest_messages.specs.Refusals.{notAnAck}
 use Rattle.guest_steps.specs.Refusals.{requestOutstanding}
 use Rattle.guest_messages.specs.Reader.{Reading, readAck}
 use Rattle.guest_messages.specs.Writer.{getFlagsMessage, setFlagsMessage, setKeyMessage, setMappingMessage}
-use Rattle.guest_steps.specs.Guest.{idle, outstanding, failed, guestOf, outgoing, incoming, withOutgoing, withIncoming, owes}
-use Rattle.guest_steps.specs.Guest.{Told, number, acked, pending, requestOwed, toldOf}
-use Rattle.guest_steps.specs.Guest.{GuestState}
+use Rattle.guest_steps.specs.Guest.{idle, outstanding, failed, guestOf, outgoing, incoming, withOutgoing, withIncoming, owes, Told, number}
+use Rattle.guest_steps.specs.Guest.{acked, pending, requestOwed, toldOf, GuestState}
 use Rattle.guest_steps.specs.declared.GuestAnswer.{GuestAnswer}
 use Rattle.guest_steps.specs.declared.Ask.{Ask}
 use Rattle.guest_steps.specs.declared.Ask.the-variants.{GetFlags, SetFlags, SetKey, SetMapping}

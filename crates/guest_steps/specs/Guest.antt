@@ -1,19 +1,15 @@
 -- The guest's end of the ring: its state, at setup and from then on, and what its calls answer.
--- Assumes nothing.
 use Rattle.octets.specs.Prelude.{_≡_, List, Bool, ℕ, _≤_, _<_, getD, replicate, ltb}
 use Rattle.messages.specs.Wire.{headerSize, success}
 use Rattle.page.specs.Refusals.{pageWrong, requestsWrong, responsesWrong}
-use Rattle.ring.specs.Reading.{incomingOf, GoodIncoming}
-use Rattle.ring.specs.Writing.{outgoingOf, owed, GoodOutgoing}
-use Rattle.ring.specs.Reading.{Incoming}
-use Rattle.ring.specs.Writing.{Outgoing}
+use Rattle.ring.specs.Reading.{incomingOf, GoodIncoming, Incoming}
+use Rattle.ring.specs.Writing.{outgoingOf, owed, GoodOutgoing, Outgoing}
 use Rattle.guest_messages.specs.Refusals.{notAnAck}
 use Rattle.guest_steps.specs.Refusals.{requestOutstanding}
 use Rattle.guest_messages.specs.Reader.{Reading, status, statusAndFlags}
 use Rattle.guest_steps.specs.declared.Guest.{Guest}
 use Rattle.guest_steps.specs.declared.Refusal.{Refusal}
-use Rattle.guest_steps.specs.declared.Refusal.the-variants.{PageLength, RequestCount, ResponseCount}
-use Rattle.guest_steps.specs.declared.Refusal.the-variants.{AckRefused, Outstanding}
+use Rattle.guest_steps.specs.declared.Refusal.the-variants.{PageLength, RequestCount, ResponseCount, AckRefused, Outstanding}
 use Rattle.guest_steps.specs.declared.GuestAnswer.{GuestAnswer}
 use Rattle.guest_steps.specs.declared.GuestAnswer.the-variants.{Pending, RequestOwed, AckedStatus, AckedFlags, Refused}
 

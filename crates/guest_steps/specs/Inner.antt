@@ -1,5 +1,4 @@
 -- What the inner functions promise: no part of the public promise.
--- Assumes nothing.
 use Rattle.octets.specs.Prelude.{_≡_, List, Bool, true, false, ℕ, length, getD, set}
 use Rattle.octets.specs.Outcome.{Outcome, value, refused}
 use Rattle.messages.specs.Wire.{typeIn, success}

@@ -1,5 +1,4 @@
 -- Good settings can be asked for a packet's queue, and each queue that they give is below the queue count.
--- Assumes nothing.
 use Rattle.octets.specs.Prelude.{_≡_, List, true, ℕ, _≤_, _<_, length, take, length-take-le}
 use lib.Pow.{pow-pos}
 use Rattle.toeplitz.specs.Hash.{keyLength}

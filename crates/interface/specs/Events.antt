@@ -1,15 +1,11 @@
 -- One event: its answer, the state and every octet of the page that it leaves.
--- Assumes nothing.
 use Rattle.octets.specs.Prelude.{List, Bool, cond, ℕ, _-_, length, eqb, leb, ltb}
 use Rattle.messages.specs.Wire.{typeIn, sizeIn}
-use Rattle.messages.specs.Requests.{carriedOut}
-use Rattle.messages.specs.Requests.{Carried}
+use Rattle.messages.specs.Requests.{carriedOut, Carried}
 use Rattle.page.specs.Refusals.{pageWrong, requestsWrong, responsesWrong}
 use Rattle.page.specs.Page.{pageSize, areaSize, reqProdAt, rspConsAt, requestsAt, responsesAt, countIn, less, counted, put}
-use Rattle.ring.specs.Reading.{whole, receivedFrom}
-use Rattle.ring.specs.Writing.{fitting, sentOctets, sent}
-use Rattle.ring.specs.Reading.{Incoming}
-use Rattle.ring.specs.Writing.{Outgoing}
+use Rattle.ring.specs.Reading.{whole, receivedFrom, Incoming}
+use Rattle.ring.specs.Writing.{fitting, sentOctets, sent, Outgoing}
 use Rattle.interface.specs.States.{HostState}
 
 -- the answers to an event by their numbers: no whole message yet, ack wholly written, ack octets still owed

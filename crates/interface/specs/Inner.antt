@@ -1,6 +1,5 @@
 -- What the inner functions promise: no part of the public promise. Each speaks of the parts that it is lent, and holds
 -- whatever the others are.
--- Assumes nothing.
 use Rattle.octets.specs.Prelude.{_≡_, List, ℕ}
 use Rattle.interface.specs.States.{interfaceIn}
 use Rattle.interface.specs.Events.{responded, readIn, left}

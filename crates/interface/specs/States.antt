@@ -1,5 +1,4 @@
 -- The state of an interface: what setup answers, what holds of every state from then on, and the packet question.
--- Assumes nothing.
 use Rattle.octets.specs.Prelude.{_≡_, List, cond, _&&_, ℕ, _<_, getD, leb}
 use Rattle.octets.specs.Outcome.{Outcome, value, refused}
 use Rattle.messages.specs.Wire.{maxPayload}

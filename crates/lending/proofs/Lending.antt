@@ -20,8 +20,7 @@ use prog.Wp.{Heap}
 use ghost.Atoms.{Atoms, sem}
 use contract.Lifetimes.{Lfts, Shares, AllOutlive}
 use contract.Monad.{Fun}
-use types.Kit.{Given, ‵, raw, _⊛_, some, later, given, ⋆, _$_, _∵_, !, qed}
-use types.Kit.{by, move, keep, use1, use2, use3, drop, split, join, pick, learn, check}
+use types.Kit.{Given, ‵, raw, _⊛_, some, later, given, ⋆, _$_, _∵_, !, qed, by, move, keep, use1, use2, use3, drop, split, join, pick, learn, check}
 use types.Kit.{fsplit, fsplit3, fjoin, await, updating, now as at-once, show, frame, done}
 use types.SemTy.{Body}
 use types.Mut.{open-ref, close-ref}

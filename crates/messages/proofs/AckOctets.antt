@@ -1,5 +1,4 @@
 -- The octets of the two kinds of ack, and the status in them.
--- Assumes nothing.
 use Rattle.octets.specs.Prelude.{_≡_, refl, sym, ap, _∙_, List, _++_, true, false≢true, ℕ, _+_, _^_}
 use Rattle.octets.specs.Prelude.{_≤_, _<_, arith, length, set, replicate, length-append, length-replicate, eqb-true}
 use Rattle.octets.specs.Numbers.{numberAt, octetsOf}

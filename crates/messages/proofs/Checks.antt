@@ -1,5 +1,4 @@
 -- Checks one after another: when all of them pass, and when two runs of checks give one status.
--- Assumes nothing.
 use Rattle.octets.specs.Prelude.{_≡_, refl, Bool, true, false, cond, ℕ, suc, _≤_, arith}
 use Rattle.messages.specs.Requests.{check}
 

@@ -1,15 +1,13 @@
 -- What a request leaves, by its status: on a nonzero one the settings as before, on success its own effect.
--- Assumes nothing.
 use Rattle.octets.specs.Prelude.{_≡_, refl, ap, _∙_, List, false, false≢true, ℕ, suc, _/_, arith, eqb, eq-eqb, ne-eqb, eqb-true}
 use lib.Dec.{eqb·suc-zero}
 use Rattle.octets.proofs.Truth.{by-test, same-truth}
 use Rattle.messages.proofs.AckOctets.{flags-success}
 use Rattle.messages.specs.Wire.{fieldSize, success}
-use Rattle.messages.specs.Settings.{mappingOf}
+use Rattle.messages.specs.Settings.{mappingOf, Settings}
 use Rattle.messages.specs.Requests.{Request, getFlags, setFlags, setKey, setMapping, none, flagsIn, keyIn, entriesIn, statusOf}
 use Rattle.messages.specs.Requests.{withFlags, withKey, withMapping, replaced, carriesFlags, answered, answeredFlags, carriedBy}
 use Rattle.messages.specs.declared.Mapping.{Mapping}
-use Rattle.messages.specs.Settings.{Settings}
 
 module _ (r : Request) (s : Settings) (n : ℕ) (p : List ℕ) where
   pub carried-refused : (status : ℕ) → statusOf r (s .queues) n p ≡ suc status → answered s (suc status) ≡ carriedBy r s n p

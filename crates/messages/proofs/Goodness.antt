@@ -1,15 +1,11 @@
 -- Good settings: at setup, and after each success.
--- Assumes nothing.
 use Rattle.octets.specs.Prelude.{_≡_, sym, subst, List, [], _∷_, true, ℕ, zero, suc, _/_, _≤_, arith, length}
 use Rattle.octets.specs.Prelude.{length-append, length-replicate, take-append-seam, length-take-le}
 use Rattle.toeplitz.specs.Hash.{keyLength}
 use Rattle.messages.specs.Wire.{fieldSize, success, allFlags}
-use Rattle.messages.specs.Settings.{maxEntries, isPowerOfTwo, EachBelow}
-use Rattle.messages.specs.Settings.{tableOf, mappingOf, GoodMapping, Good}
-use Rattle.messages.specs.Requests.{Request, getFlags, setFlags, setKey, setMapping, none, entriesIn, statusOf}
-use Rattle.messages.specs.Requests.{replaced}
+use Rattle.messages.specs.Settings.{maxEntries, isPowerOfTwo, EachBelow, tableOf, mappingOf, GoodMapping, Good, Settings}
+use Rattle.messages.specs.Requests.{Request, getFlags, setFlags, setKey, setMapping, none, entriesIn, statusOf, replaced}
 use Rattle.messages.specs.declared.Mapping.{Mapping}
-use Rattle.messages.specs.Settings.{Settings}
 use Rattle.messages.proofs.Powers.{listed-parts}
 use Rattle.messages.proofs.Tables.{length-entries, all-below-exactly}
 use Rattle.messages.proofs.Statuses.{set-flags-exactly, set-mapping-exactly}

@@ -1,5 +1,4 @@
 -- What of a payload a request looks at: the octets that its header counts, and none where it counts more than are kept.
--- Assumes nothing.
 use Rattle.octets.specs.Prelude.{_≡_, refl, sym, ap, _∙_, List, cond, ℕ, _+_, _*_, _/_, _%_, _≤_, _<_, arith}
 use Rattle.octets.specs.Prelude.{getD, take, getD-take, eqb, leb, eqb-true, leb-true}
 use lib.Seq.{ext-getD}
@@ -7,10 +6,9 @@ use Rattle.octets.specs.Numbers.{numberAt}
 use Rattle.octets.proofs.Numbers.{number-same}
 use Rattle.toeplitz.specs.Hash.{keyLength}
 use Rattle.messages.specs.Wire.{maxPayload, fieldSize, success, invalidParameter, allFlags}
-use Rattle.messages.specs.Settings.{maxEntries, isPowerOfTwo, mappingOf}
+use Rattle.messages.specs.Settings.{maxEntries, isPowerOfTwo, mappingOf, Settings}
 use Rattle.messages.specs.Requests.{Request, getFlags, setFlags, setKey, setMapping, none, flagsIn, keyIn, entriesIn, allBelow, check}
 use Rattle.messages.specs.Requests.{statusOf, withFlags, withKey, withMapping, replaced, carriedBy}
-use Rattle.messages.specs.Settings.{Settings}
 use Rattle.messages.proofs.Checks.{check-same}
 use Rattle.messages.proofs.Statuses.{set-flags-exactly, set-key-exactly, set-mapping-exactly}
 use Rattle.messages.proofs.Tables.{length-entries, entry-at}

@@ -1,5 +1,4 @@
 -- Where the parts of a message stand: what is written into its header and payload is what is read there.
--- Assumes nothing.
 use Rattle.octets.specs.Prelude.{_≡_, refl, sym, ap, _∙_, List, _++_, append-assoc, ℕ, _+_, _^_, _<_, arith, length, take, drop}
 use Rattle.octets.specs.Prelude.{length-append, length-drop, take-append-drop, drop-at, take-add}
 use Rattle.octets.specs.Numbers.{AreOctets, numberAt, octetsOf}

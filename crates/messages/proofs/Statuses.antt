@@ -1,5 +1,4 @@
 -- The rows of the table of requests, one by one: which check fails, and the status that follows; or none fails.
--- Assumes nothing.
 use Rattle.octets.specs.Prelude.{_≡_, refl, List, _↔_, true, false, ℕ, _/_, _%_, _≤_, _<_, arith, eqb, leb, eq-eqb, ne-eqb}
 use Rattle.octets.specs.Prelude.{eqb-true, le-leb, lt-leb, leb-true}
 use Rattle.toeplitz.specs.Hash.{keyLength}

@@ -1,5 +1,4 @@
 -- Entries of a payload, one after the other; and tables whose entries are all below the queue count.
--- Assumes nothing.
 use Rattle.octets.specs.Prelude.{_≡_, refl, sym, ap, ap₂, _∙_, List, [], _∷_, _++_, _↔_, true, false, false≢true, ℕ, zero, suc, _+_}
 use Rattle.octets.specs.Prelude.{_-_, _*_, _≤_, _<_, arith, length, getD, drop, set, replicate, ltb, lt-ltb, ltb-true}
 use native.Mathlib.Nat.{zero-mul}

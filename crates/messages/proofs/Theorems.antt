@@ -1,6 +1,5 @@
 -- What readers ask of the host's messages, over the definitions alone. A contract says that the call answers what
 -- `carriedOut` says; these say what that means.
--- Assumes nothing.
 use Rattle.octets.specs.Prelude.{_≡_, refl, sym, ap, _∙_, _↔_, true, List, [], _∷_, ℕ, _+_, _^_, _≤_, _<_, arith, length, take}
 use Rattle.octets.specs.Prelude.{take-append-seam, getD-take}
 use lib.Pow.{pow-mono}
@@ -8,10 +7,9 @@ use Rattle.octets.specs.Numbers.{numberAt}
 use Rattle.octets.proofs.Numbers.{number-same, number-octets-alone}
 use Rattle.toeplitz.specs.Hash.{keyLength}
 use Rattle.messages.specs.Wire.{maxPayload, headerSize, fieldSize, message, statusIn, ackType, success}
-use Rattle.messages.specs.Settings.{maxQueues, isPowerBelow, isPowerOfTwo, isListed, settingsAtSetup, Good}
+use Rattle.messages.specs.Settings.{maxQueues, isPowerBelow, isPowerOfTwo, isListed, settingsAtSetup, Good, Settings}
 use Rattle.messages.specs.Requests.{requestOf, statusOf, replaced, statusPayload, ackPayload, maxAck, ackIn, ackStatus}
 use Rattle.messages.specs.Requests.{answered, carriedBy, carriedOut}
-use Rattle.messages.specs.Settings.{Settings}
 use Rattle.messages.proofs.Powers.{power-exactly, listed-parts, exponent-most}
 use Rattle.messages.proofs.Parts.{length-message, number-payload}
 use Rattle.messages.proofs.AckOctets.{payload-status, payload-size, payload-short, stored-fits}

@@ -1,5 +1,4 @@
 -- The request of a type, case by case.
--- Assumes nothing.
 use Rattle.octets.specs.Prelude.{_≡_, refl, false, cond, ℕ, eqb, eqb-true, eqb-false}
 use Rattle.octets.proofs.Truth.{by-test}
 use Rattle.messages.specs.Wire.{getFlagsType, setFlagsType, setKeyType, setMappingType}

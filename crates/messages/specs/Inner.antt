@@ -1,5 +1,4 @@
 -- What the private functions promise each other. Nothing here is needed to read the promises of the public calls.
--- Assumes nothing.
 use Rattle.octets.specs.Prelude.{_≡_, List, true, ℕ}
 use Rattle.messages.specs.Settings.{Settings, mappingOf, settingsOf}
 use Rattle.messages.specs.Requests.{Request, getFlags, setFlags, setKey, setMapping, entriesIn, allBelow, ackPayload, ackStored, carriedBy}

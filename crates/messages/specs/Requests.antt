@@ -1,12 +1,10 @@
 -- Requests judged and carried out: the status, the settings left, and the ack.
--- Assumes nothing.
 use Rattle.octets.specs.Prelude.{List, [], _∷_, _++_, Bool, true, false, cond, _&&_, ℕ, zero, suc, _-_, _/_, _%_, length, take}
 use Rattle.octets.specs.Prelude.{drop, replicate, eqb, leb, ltb}
 use Rattle.octets.specs.Numbers.{numberAt, octetsOf}
 use Rattle.toeplitz.specs.Hash.{keyLength}
-use Rattle.messages.specs.Wire.{fieldSize, message, typeIn, sizeIn, payloadIn, statusIn}
-use Rattle.messages.specs.Wire.{ackType, getFlagsType, setFlagsType, setKeyType, setMappingType}
-use Rattle.messages.specs.Wire.{success, notSupported, invalidParameter, bufferOverflow, allFlags}
+use Rattle.messages.specs.Wire.{fieldSize, message, typeIn, sizeIn, payloadIn, statusIn, ackType, getFlagsType, setFlagsType, setKeyType}
+use Rattle.messages.specs.Wire.{setMappingType, success, notSupported, invalidParameter, bufferOverflow, allFlags}
 use Rattle.messages.specs.Settings.{Settings, maxEntries, isPowerOfTwo, mappingOf}
 use Rattle.messages.specs.declared.Mapping.{Mapping}
 use Rattle.messages.specs.declared.Ack.{Ack}

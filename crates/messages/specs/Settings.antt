@@ -1,5 +1,4 @@
 -- The settings of an interface: what they are at setup, and what holds of them from then on.
--- Assumes nothing.
 use Rattle.octets.specs.Prelude.{_≡_, List, [], _∷_, _++_, Bool, true, false, cond, _&&_, ℕ, zero, suc, _-_, _^_, _≤_, _<_}
 use Rattle.octets.specs.Prelude.{length, getD, take, replicate, eqb, leb}
 use Rattle.toeplitz.specs.Hash.{keyLength}

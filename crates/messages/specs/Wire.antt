@@ -1,5 +1,4 @@
 -- Control messages as octets, as both ends write and read them.
--- Assumes nothing.
 use Rattle.octets.specs.Prelude.{List, _++_, ℕ, _+_, length, drop}
 use Rattle.octets.specs.Numbers.{numberAt, octetsOf}
 

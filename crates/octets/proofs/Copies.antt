@@ -1,5 +1,4 @@
 -- One step of a copy into the start of a list, and its end. (A run of stores of one list behind another is `sets-append`.)
--- Assumes nothing.
 use Rattle.octets.specs.Prelude.{_≡_, sym, ap, _∙_, List, [], _∷_, _++_, append-nil, ℕ, zero, suc, _+_, _≤_, _<_, add-zero}
 use Rattle.octets.specs.Prelude.{zero-add, add-one, arith, length, getD, set, take, drop, drop-of-length-le, sets, sets-eq}
 use Rattle.octets.specs.Prelude.{take-all, drop-cons, drop-at, length-take-le}

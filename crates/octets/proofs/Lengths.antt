@@ -1,5 +1,4 @@
 -- A list of a known length is its elements, so what holds of every such list of variables holds of it.
--- Assumes nothing.
 use Rattle.octets.specs.Prelude.{_≡_, List, [], _∷_, ℕ, zero, suc, arith, length}
 
 -- P of every list of n elements, an element at a time

@@ -1,6 +1,5 @@
 -- Laws of `numberAt` and `octetsOf`, for every number of octets: reading gives back what was written, and writing what
 -- was read; and where in a list the octets stand.
--- Assumes nothing.
 use Rattle.octets.specs.Prelude.{_≡_, refl, sym, ap, ap₂, _∙_, List, [], _∷_, _++_, append-nil, ℕ, zero, suc, _+_, _*_, _/_}
 use Rattle.octets.specs.Prelude.{_%_, _^_, _≤_, _<_, add-zero, zero-add, add-assoc, pow-suc, mod-lt, arith, length, getD}
 use Rattle.octets.specs.Prelude.{take, drop, set, replicate, getD-drop, drop-cons, sets}

@@ -1,5 +1,4 @@
 -- Outcomes that are equal have equal values, or equal numbers of refusal; and what a call with one test answers.
--- Assumes nothing.
 use Rattle.octets.specs.Prelude.{_≡_, refl, sym, Bool, true, false, cond, ℕ, arith}
 use Rattle.octets.specs.Outcome.{Outcome, value, refused}
 

@@ -1,6 +1,5 @@
 -- Tests that are true together are equal, a test of two parts is true where both are, and a choice by a test;
 -- and statements that hold together.
--- Assumes nothing.
 use Rattle.octets.specs.Prelude.{_≡_, refl, sym, _↔_, Bool, true, false, cond, _&&_, false≢true}
 
 pub same-truth : (a b : Bool) → (a ≡ true → b ≡ true) → (b ≡ true → a ≡ true) → a ≡ b

@@ -1,5 +1,4 @@
 -- Numbers in octets. Document 01: all numbers are unsigned and little-endian, so the lowest octet stands first.
--- Assumes nothing.
 use Rattle.octets.specs.Prelude.{List, [], _∷_, ℕ, zero, suc, _+_, _*_, _/_, _%_, _<_, getD}
 
 -- a list of octets: each number in it is below 256

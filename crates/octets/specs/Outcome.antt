@@ -1,5 +1,4 @@
 -- What a call answers, by document 01's numbers.
--- Assumes nothing.
 use Rattle.octets.specs.Prelude.{ℕ}
 
 -- a value, or the number of the refusal

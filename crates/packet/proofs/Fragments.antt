@@ -1,9 +1,7 @@
 -- Fragments of a datagram: how the field of two octets tells them, and what readers ask of their kind.
--- Assumes nothing.
-use Rattle.octets.specs.Prelude.{_≡_, refl, sym, ap, _∙_, _↔_, List, _++_, Bool, true, false, cond, not, _||_, false≢true, ℕ, _+_}
-use Rattle.octets.specs.Prelude.{_*_, _/_, _%_, _^_, _≤_, _<_, arith, bitAnd, length, getD, take, drop, set, length-set, take-add}
-use Rattle.octets.specs.Prelude.{drop-drop, getD-set-same, getD-set-other, eqb, leb, eqb-true, eqb-false, leb-true, leb-false}
-use Rattle.octets.specs.Prelude.{not-true, eq-eqb, ne-eqb}
+use Rattle.octets.specs.Prelude.{_≡_, refl, sym, ap, _∙_, _↔_, List, _++_, Bool, true, false, cond, not, _||_, false≢true, ℕ, _+_, _*_, _/_, _%_, _^_}
+use Rattle.octets.specs.Prelude.{_≤_, _<_, arith, bitAnd, length, getD, take, drop, set, length-set, take-add, drop-drop, getD-set-same}
+use Rattle.octets.specs.Prelude.{getD-set-other, eqb, leb, eqb-true, eqb-false, leb-true, leb-false, not-true, eq-eqb, ne-eqb}
 use mathlib.Core.Bool.{and-false}
 use lib.Bits.{and-mask}
 use Rattle.octets.proofs.Truth.{both-true}

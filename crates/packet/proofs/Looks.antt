@@ -1,5 +1,4 @@
 -- What is told of a packet that has passed the tests of a kind.
--- Assumes nothing.
 use Rattle.octets.specs.Prelude.{_≡_, refl, List, true, false, not, ℕ}
 use Rattle.packet.specs.Packets.{isIpv4, isIpv6, isTcp, isFragment, isIpv4Tcp, kindOf, none, typed, lookAt}
 

@@ -1,6 +1,5 @@
 -- What readers and callers ask of the kind of a packet: each kind has the octets that its hash input takes, so the
 -- input is a part of the packet, as long as document 01 says.
--- Assumes nothing.
 use Rattle.octets.specs.Prelude.{_≡_, refl, sym, ap, _∙_, List, Bool, true, false, cond, ℕ, suc, _+_, _≤_, arith, length, drop}
 use Rattle.octets.specs.Prelude.{length-drop, length-take-le, leb-true}
 use Rattle.octets.proofs.Truth.{both-true}

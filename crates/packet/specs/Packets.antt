@@ -1,7 +1,5 @@
 -- The kind of a packet, and where its hash input stands.
--- Assumes nothing.
-use Rattle.octets.specs.Prelude.{List, Bool, cond, not, _&&_, _||_, ℕ, zero, suc, _+_, _*_, _/_, _%_, _^_, length, getD, take}
-use Rattle.octets.specs.Prelude.{drop, eqb, leb}
+use Rattle.octets.specs.Prelude.{List, Bool, cond, not, _&&_, _||_, ℕ, zero, suc, _+_, _*_, _/_, _%_, _^_, length, getD, take, drop, eqb, leb}
 use Rattle.toeplitz.specs.TwoWay.{addressSize, inputSize}
 use Rattle.packet.specs.declared.Found.{Found}
 use Rattle.packet.specs.declared.Found.the-variants.{NotIp, Ip}

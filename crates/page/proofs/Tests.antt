@@ -1,5 +1,4 @@
 -- The three tests of a page with which a call of either end begins, and what its refusal by 3, 4 or 5 says.
--- Assumes nothing.
 use Rattle.octets.specs.Prelude.{_≡_, List, _↔_, cond, ℕ, _≤_, _<_, arith, length, eqb, leb, eqb-true, eqb-false, leb-true, leb-false}
 use Rattle.octets.proofs.Truth.{by-test}
 use Rattle.page.specs.Refusals.{pageWrong, requestsWrong, responsesWrong}

@@ -1,5 +1,4 @@
 -- Octets of a page that stores elsewhere leave as they were.
--- Assumes nothing.
 use Rattle.octets.specs.Prelude.{_≡_, refl, ap, ap₂, _∙_, List, [], _∷_, _⊎_, inl, inr, ℕ, zero, suc, _+_, _%_, _^_, _≤_, _<_}
 use Rattle.octets.specs.Prelude.{arith, length, getD, set, length-set, getD-set-same, getD-set-other}
 use Rattle.page.proofs.Places.{octets-suc, octets-none, put-suc}

@@ -1,5 +1,4 @@
 -- The shared page: its counts, and the octets of its areas by their counts.
--- Assumes nothing.
 use Rattle.octets.specs.Prelude.{List, [], _∷_, ℕ, zero, suc, _+_, _-_, _%_, _^_, getD, set, sets}
 use mathlib.Core.List.{map}
 use Rattle.octets.specs.Numbers.{numberAt, octetsOf}

@@ -1,5 +1,4 @@
 -- The refusals of a page, by document 01's numbers. Both ends give them, each by its own counts.
--- Assumes nothing.
 use Rattle.octets.specs.Prelude.{ℕ}
 
 -- the page is not 4,096 octets

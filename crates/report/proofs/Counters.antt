@@ -1,5 +1,4 @@
 -- The counts while records are counted: with what is left they come to what all records come to.
--- Assumes nothing.
 use Rattle.octets.specs.Prelude.{_≡_, refl, sym, ap, _∙_, List, [], Bool, cond, ℕ, _+_, _≤_, _<_, arith, length}
 use Rattle.octets.specs.Prelude.{getD, length-set, replicate, getD-set-same, getD-set-other, eqb, eqb-true, eqb-false, eq-eqb}
 use lib.ListN.{getD-replicate}

@@ -1,5 +1,4 @@
 -- The refusals of a report in their order.
--- Assumes nothing.
 use Rattle.octets.specs.Prelude.{_≡_, refl, List, ℕ, _≤_, _<_, length, le-leb, lt-leb}
 use Rattle.octets.specs.Outcome.{value, refused}
 use Rattle.messages.specs.Settings.{Settings}

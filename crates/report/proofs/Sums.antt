@@ -1,7 +1,5 @@
 -- Counts of every queue added up.
--- Assumes nothing.
-use Rattle.octets.specs.Prelude.{_≡_, refl, List, [], _∷_, Bool, ℕ, zero, suc, _+_, _<_, arith, eqb}
-use Rattle.octets.specs.Prelude.{eq-eqb, ne-eqb}
+use Rattle.octets.specs.Prelude.{_≡_, refl, List, [], _∷_, Bool, ℕ, zero, suc, _+_, _<_, arith, eqb, eq-eqb, ne-eqb}
 use Rattle.report.specs.Counting.{Tally, tallyOf, those, rising, sumOf}
 use Rattle.report.proofs.Tallies.{Adds, packets-add, octets-add, those-one, those-none}
 

@@ -1,7 +1,5 @@
 -- Laws of what is counted: record by record, and queue by queue.
--- Assumes nothing.
-use Rattle.octets.specs.Prelude.{_≡_, refl, ap₂, List, [], _∷_, Bool, true, false, cond, ℕ, zero, suc, _+_, _≤_, _<_, arith}
-use Rattle.octets.specs.Prelude.{length}
+use Rattle.octets.specs.Prelude.{_≡_, refl, ap₂, List, [], _∷_, Bool, true, false, cond, ℕ, zero, suc, _+_, _≤_, _<_, arith, length}
 use Rattle.capture.specs.Records.{capturedOctets}
 use Rattle.report.specs.Counting.{those, rising}
 

@@ -1,9 +1,7 @@
 -- What readers ask of a report, over the definitions alone. A contract says that the call answers what `reportOn` says;
 -- these say what that means.
--- Assumes nothing.
-use Rattle.octets.specs.Prelude.{_≡_, refl, sym, ap, _∙_, List, [], _∷_, _++_, Bool, true, false, cond, _&&_, false≢true, ℕ, _+_}
-use Rattle.octets.specs.Prelude.{_≤_, arith, length, take, replicate, length-append, length-drop, take-append-le, eqb}
-use Rattle.octets.specs.Prelude.{leb, leb-true, eq-eqb}
+use Rattle.octets.specs.Prelude.{_≡_, refl, sym, ap, _∙_, List, [], _∷_, _++_, Bool, true, false, cond, _&&_, false≢true, ℕ, _+_, _≤_, arith, length}
+use Rattle.octets.specs.Prelude.{take, replicate, length-append, length-drop, take-append-le, eqb, leb, leb-true, eq-eqb}
 use Rattle.octets.specs.Outcome.{Outcome, value, refused, andThen}
 use Rattle.octets.proofs.Truth.{both-true, by-test}
 use Rattle.octets.proofs.Outcomes.{value-same, value-not-refused, test-value}

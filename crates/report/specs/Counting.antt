@@ -1,5 +1,4 @@
 -- What is counted of the records of a capture, under the settings of an interface.
--- Assumes nothing.
 use Rattle.octets.specs.Prelude.{List, [], _∷_, Bool, true, false, cond, ℕ, zero, suc, _+_, length, eqb}
 use Rattle.messages.specs.Settings.{Settings}
 use Rattle.steering.specs.Steering.{Choice, unhashed, hashed, queueIn}

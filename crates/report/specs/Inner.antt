@@ -1,5 +1,4 @@
 -- What the inner functions promise: no part of the public promise.
--- Assumes nothing.
 use Rattle.octets.specs.Prelude.{_≡_, List, cond, ℕ, _+_, _^_, _<_, getD, set}
 use Rattle.messages.specs.Settings.{maxQueues}
 use Rattle.steering.specs.Steering.{Choice, queueIn}

@@ -1,5 +1,4 @@
 -- The report on a settings file and a capture.
--- Assumes nothing.
 use Rattle.octets.specs.Prelude.{List, cond, _&&_, ℕ, length, getD, leb}
 use Rattle.octets.specs.Outcome.{Outcome, value, refused, andThen}
 use Rattle.messages.specs.Settings.{Settings}

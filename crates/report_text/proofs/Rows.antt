@@ -1,5 +1,4 @@
 -- The lines of queues: one queue more is one line more, behind the others.
--- Assumes nothing.
 use Rattle.octets.specs.Prelude.{_≡_, sym, ap, _∙_, List, _++_, append-assoc, append-nil, ℕ, zero, suc, _+_, add-one, arith, getD}
 use Rattle.report.specs.Counting.{Tally, rising}
 use Rattle.report_text.specs.ReportLines.{queueLine, queueLines}

@@ -1,5 +1,4 @@
 -- The lines of a report.
--- Assumes nothing.
 use Rattle.octets.specs.Prelude.{List, [], _∷_, _++_, ℕ, suc}
 use Rattle.octets.specs.Outcome.{Outcome, value, refused}
 use Rattle.text.specs.Ascii.{ascii, decimal}

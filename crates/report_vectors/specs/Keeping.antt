@@ -1,5 +1,4 @@
 -- The files that are kept.
--- Assumes nothing.
 use Rattle.octets.specs.Prelude.{ℕ, _≤_}
 use Rattle.report_vectors.specs.declared.Kept.{Kept}
 

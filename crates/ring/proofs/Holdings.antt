@@ -1,17 +1,13 @@
 -- A message read octet by octet holds the octets that were read.
--- Assumes nothing.
-use Rattle.octets.specs.Prelude.{_≡_, refl, sym, ap, ap₂, _∙_, List, [], _∷_, _++_, append-nil, Bool, true, false, ℕ, suc, _+_}
-use Rattle.octets.specs.Prelude.{_-_, _≤_, _<_, arith, length, take, drop, set, length-append, length-take, length-drop}
-use Rattle.octets.specs.Prelude.{length-set, drop-of-length-le, List·getD-append, take-all, take-append-le, take-append-add}
-use Rattle.octets.specs.Prelude.{drop-append-le, getD-take, length-take-le, leb, ltb, le-leb, lt-leb, leb-true, leb-false}
-use Rattle.octets.specs.Prelude.{ltb-true, ltb-false}
-use lib.Seq.{take-length, append-snoc}
-use lib.Seq.{set-out, take-suc-set}
+use Rattle.octets.specs.Prelude.{_≡_, refl, sym, ap, ap₂, _∙_, List, [], _∷_, _++_, append-nil, Bool, true, false, ℕ, suc, _+_, _-_, _≤_, _<_, arith}
+use Rattle.octets.specs.Prelude.{length, take, drop, set, length-append, length-take, length-drop, length-set, drop-of-length-le, List·getD-append}
+use Rattle.octets.specs.Prelude.{take-all, take-append-le, take-append-add, drop-append-le, getD-take, length-take-le, leb, ltb, le-leb, lt-leb}
+use Rattle.octets.specs.Prelude.{leb-true, leb-false, ltb-true, ltb-false}
+use lib.Seq.{take-length, append-snoc, set-out, take-suc-set}
 use Rattle.octets.proofs.Numbers.{number-same}
 use Rattle.messages.specs.Wire.{headerSize, maxPayload, sizeIn}
-use Rattle.ring.specs.Reading.{messageLength, whole, withOctet, received}
+use Rattle.ring.specs.Reading.{messageLength, whole, withOctet, received, Message}
 use Rattle.ring.specs.Streams.{beginsWhole, firstMessage, presentPart, Holding}
-use Rattle.ring.specs.Reading.{Message}
 use Rattle.ring.proofs.Turns.{with-header, with-payload, received-none, received-next, received-whole}
 
 -- the size in a header does not depend on what stands behind the header

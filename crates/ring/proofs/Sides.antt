@@ -1,5 +1,4 @@
 -- Both sides of a ring stay good, and octets are counted as they are moved.
--- Assumes nothing.
 use Rattle.octets.specs.Prelude.{_≡_, refl, sym, ap, _∙_, List, [], _∷_, false, ℕ, suc, _+_, _-_, _%_, _^_, _≤_, _<_, arith, length}
 use Rattle.octets.specs.Prelude.{length-set, getD, drop, length-drop, length-take-le, ltb, lt-leb}
 use Rattle.octets.proofs.Truth.{by-test}
@@ -7,11 +6,9 @@ use Rattle.messages.specs.Wire.{headerSize, maxPayload}
 use Rattle.messages.specs.Requests.{maxAck}
 use Rattle.page.specs.Page.{areaSize, advanced, less, octetsIn, put}
 use Rattle.page.proofs.Untouched.{put-other, put-stands}
-use Rattle.ring.specs.Reading.{messageLength, isWhole, whole, withOctet, received, receivedFrom, incomingAtSetup, GoodIncoming}
-use Rattle.ring.specs.Writing.{fitting, sent, sentOctets, outgoingAtSetup, GoodOutgoing}
-use Rattle.ring.specs.Reading.{Message}
+use Rattle.ring.specs.Reading.{messageLength, isWhole, whole, withOctet, received, receivedFrom, incomingAtSetup, GoodIncoming, Message}
 use Rattle.ring.specs.Reading.{Incoming}
-use Rattle.ring.specs.Writing.{Outgoing}
+use Rattle.ring.specs.Writing.{fitting, sent, sentOctets, outgoingAtSetup, GoodOutgoing, Outgoing}
 
 -- a message with the same sizes, and n octets more
 pub record Grown (m r : Message) (n : ℕ) : Type 0 where

@@ -1,9 +1,7 @@
 -- What one octet does to a message, and when it is taken.
--- Assumes nothing.
 use Rattle.octets.specs.Prelude.{_≡_, refl, List, [], _∷_, true, false, ℕ, suc, _-_, _≤_, _<_, add-one, set, lt-ltb, le-ltb}
 use Rattle.messages.specs.Wire.{headerSize}
-use Rattle.ring.specs.Reading.{whole, withOctet, received}
-use Rattle.ring.specs.Reading.{Message}
+use Rattle.ring.specs.Reading.{whole, withOctet, received, Message}
 
 -- the message with these parts
 abbrev pub parts : List ℕ → List ℕ → ℕ → Message

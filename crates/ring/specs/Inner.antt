@@ -1,5 +1,4 @@
 -- What the inner functions promise: no part of the public promise.
--- Assumes nothing.
 use Rattle.octets.specs.Prelude.{List, cond, ℕ, _-_, min, ltb}
 use Rattle.messages.specs.Wire.{headerSize}
 use Rattle.ring.specs.Reading.{messageLength}

@@ -1,5 +1,4 @@
 -- The present message, and octets of an area read into it. A reading side is that of either end.
--- Assumes nothing.
 use Rattle.octets.specs.Prelude.{_≡_, List, [], _∷_, Bool, false, cond, ℕ, _+_, _-_, _^_, _<_, length, set, replicate, leb, ltb}
 use Rattle.messages.specs.Wire.{headerSize, maxPayload, sizeIn}
 use Rattle.page.specs.Page.{advanced, octetsIn}

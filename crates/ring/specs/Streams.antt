@@ -1,9 +1,7 @@
 -- A stream of octets: the message that it begins with, and a message read so far as the octets that were read.
--- Assumes nothing.
 use Rattle.octets.specs.Prelude.{_≡_, List, Bool, cond, ℕ, _-_, length, take, drop}
 use Rattle.messages.specs.Wire.{headerSize, maxPayload}
-use Rattle.ring.specs.Reading.{messageLength, isWhole}
-use Rattle.ring.specs.Reading.{Message}
+use Rattle.ring.specs.Reading.{messageLength, isWhole, Message}
 
 -- whether a stream begins with a whole message, that message, and what is behind it
 abbrev pub beginsWhole : List ℕ → Bool

@@ -1,5 +1,4 @@
 -- A message, and octets of it put into an area. A writing side is that of either end.
--- Assumes nothing.
 use Rattle.octets.specs.Prelude.{_≡_, List, ℕ, _+_, _-_, _^_, _≤_, _<_, min, length, take, drop, replicate}
 use Rattle.messages.specs.Requests.{maxAck}
 use Rattle.page.specs.Page.{advanced}

@@ -1,8 +1,6 @@
 -- What carrying out the first message of some octets leaves.
--- Assumes nothing.
-use Rattle.octets.specs.Prelude.{_≡_, sym, ap, _∙_, List, [], _++_, true, false, ℕ, _+_, _-_, _≤_, _<_, arith, length, take, drop}
-use Rattle.octets.specs.Prelude.{length-append, length-drop, drop-of-length-le, length-take-le, take-all, take-append-seam}
-use Rattle.octets.specs.Prelude.{drop-drop, leb-true}
+use Rattle.octets.specs.Prelude.{_≡_, sym, ap, _∙_, List, [], _++_, true, false, ℕ, _+_, _-_, _≤_, _<_, arith, length, take, drop, length-append}
+use Rattle.octets.specs.Prelude.{length-drop, drop-of-length-le, length-take-le, take-all, take-append-seam, drop-drop, leb-true}
 use lib.Seq.{take-length}
 use Rattle.octets.specs.Outcome.{value, refused}
 use Rattle.messages.specs.Wire.{maxPayload, headerSize, typeIn, sizeIn, success}

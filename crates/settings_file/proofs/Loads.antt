@@ -1,5 +1,4 @@
 -- The settings that messages leave, message by message.
--- Assumes nothing.
 use Rattle.octets.specs.Prelude.{_≡_, refl, sym, ap, _∙_, List, [], _∷_, _++_, append-nil, Bool, true, false, cond, _&&_, ℕ}
 use Rattle.octets.specs.Prelude.{_+_, _≤_, _<_, arith, length, getD, take, drop, length-drop, length-take-le, take-all}
 use Rattle.octets.specs.Prelude.{take-add, drop-at, getD-take, eqb, leb, eq-eqb, ne-eqb, leb-true}

@@ -1,5 +1,4 @@
 -- What the inner functions promise: no part of the public promise.
--- Assumes nothing.
 use Rattle.octets.specs.Prelude.{_≡_, List, ℕ, _≤_, _<_, length, take, drop}
 use Rattle.octets.specs.Outcome.{refused, placed, itself}
 use Rattle.messages.specs.Wire.{maxPayload}

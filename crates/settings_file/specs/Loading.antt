@@ -1,5 +1,4 @@
 -- The settings file: one octet for the queue count, then request messages, each carried out as the host does.
--- Assumes nothing.
 use Rattle.octets.specs.Prelude.{List, [], _∷_, Bool, true, cond, _&&_, ℕ, length, eqb}
 use Rattle.octets.specs.Outcome.{Outcome, value, refused, andThen}
 use Rattle.messages.specs.Wire.{success}

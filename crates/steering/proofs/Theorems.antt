@@ -1,12 +1,9 @@
 -- What readers ask of the packet question, over the definitions alone.
--- Assumes nothing.
-use Rattle.octets.specs.Prelude.{_≡_, refl, sym, ap, _∙_, List, _++_, Bool, true, false, cond, ℕ, _%_, _≤_, _<_, mod-lt, arith}
-use Rattle.octets.specs.Prelude.{length, getD}
+use Rattle.octets.specs.Prelude.{_≡_, refl, sym, ap, _∙_, List, _++_, Bool, true, false, cond, ℕ, _%_, _≤_, _<_, mod-lt, arith, length, getD}
 use Rattle.toeplitz.specs.Hash.{publishedHash}
 use Rattle.packet.specs.Packets.{PacketType, noType, hashType, isIpv4, isFragment, kindOf, inputOf, ipv4Source, ipv4Destination}
 use Rattle.packet.proofs.Fragments.{fragment-plain, addresses-input}
-use Rattle.steering.specs.Steering.{isSet, plainType, typeUsed, queueOf, Choice, unhashed, hashed, queueIn, hashedTo, chosen, steered}
-use Rattle.steering.specs.Steering.{choiceOf}
+use Rattle.steering.specs.Steering.{isSet, plainType, typeUsed, queueOf, Choice, unhashed, hashed, queueIn, hashedTo, chosen, steered, choiceOf}
 use Rattle.steering.specs.declared.Steered.{Steered}
 use Rattle.steering.specs.declared.Steered.the-variants.{NoType, Hashed}
 

@@ -1,5 +1,4 @@
 -- What the inner functions promise: no part of the public promise.
--- Assumes nothing.
 use Rattle.octets.specs.Prelude.{_≡_, List, cond, ℕ, _+_, _≤_, length, take}
 use Rattle.toeplitz.specs.Hash.{publishedHash}
 use Rattle.toeplitz.specs.TwoWay.{lastType, addressSize, inputSize}

@@ -1,5 +1,4 @@
 -- The type, hash and queue of a packet under the flags, key and mapping table of an interface.
--- Assumes nothing.
 use Rattle.octets.specs.Prelude.{_≡_, List, Bool, cond, ℕ, _-_, _/_, _%_, _^_, _≤_, length, getD, eqb}
 use Rattle.toeplitz.specs.Hash.{keyLength, publishedHash}
 use Rattle.packet.specs.Packets.{PacketType, noType, hashType, kindOf, inputOf}

@@ -1,5 +1,4 @@
 -- Texts that grow: nothing added, one octet added, and one growth after another.
--- Assumes nothing.
 use Rattle.octets.specs.Prelude.{_≡_, refl, sym, ap, _∙_, List, [], _∷_, _++_, append-assoc, append-nil, ℕ, _+_, _<_, _≤_}
 use Rattle.octets.specs.Prelude.{add-one, arith, length, getD, take, set, length-append, length-take}
 use lib.Seq.{take-suc-set, take-suc}

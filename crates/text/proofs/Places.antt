@@ -1,5 +1,4 @@
 -- The fewest digits that hold a number: `placesIn` counts the decimal ones, and a bound on the number bounds them.
--- Assumes nothing.
 use Rattle.octets.specs.Prelude.{_≡_, ap, ℕ, zero, suc, _-_, _/_, _^_, _<_, _≤_, pow-suc, decLt, arith, lt-ltb, le-ltb}
 use native.Mathlib.Nat.{pow-le-pow-right}
 use Rattle.io.specs.Digits.{Fewest}

@@ -1,5 +1,4 @@
 -- Words and numbers as the octets that a program prints.
--- Assumes nothing.
 use Rattle.octets.specs.Prelude.{List, [], _∷_, cond, ℕ, zero, suc, _/_, ltb}
 use Prim.Native.Char.{code}
 use Prim.Native.String.{String, [] as noText, _∷_ as _andText_}

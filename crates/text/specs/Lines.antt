@@ -1,5 +1,4 @@
 -- The lines that the programs print.
--- Assumes nothing.
 use Rattle.octets.specs.Prelude.{List, _++_, cond, ℕ, length, take, drop, eqb}
 use Rattle.octets.specs.Outcome.{Outcome, value, refused}
 use Rattle.toeplitz.specs.Refusals.{keyLengthWrong}

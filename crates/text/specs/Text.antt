@@ -1,5 +1,4 @@
 -- A text that grows: what it holds, and what it is to add to it.
--- Assumes nothing.
 use Rattle.octets.specs.Prelude.{_≡_, List, _++_, ℕ, _+_, _≤_, length, take}
 use Rattle.text.specs.declared.Text.{Text}
 

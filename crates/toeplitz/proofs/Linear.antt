@@ -1,5 +1,4 @@
 -- The published hash is linear in the input and in the key: bit, window and term of an XOR are the XORs of the parts'.
--- Assumes nothing.
 use Rattle.octets.specs.Prelude.{_≡_, refl, sym, ap, ap₂, _∙_, List, [], _∷_, ℕ, zero, suc, _+_, _*_, _/_, _%_, _^_, _-_, _<_}
 use Rattle.octets.specs.Prelude.{arith, length, getD, bitXor, xor-zero-r}
 use lib.Bits.{xor-shr, xor-mod, xor-block, xor-self}

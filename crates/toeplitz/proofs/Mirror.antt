@@ -1,5 +1,4 @@
 -- Where an octet or a bit of an input stands in its reverse, and the hash of a reverse.
--- Assumes nothing.
 use Rattle.octets.specs.Prelude.{_≡_, sym, ap, ap₂, _∙_, List, _++_, Bool, true, false, ℕ, _+_, _*_, _/_, _%_, _^_, _-_, _≤_, _<_}
 use Rattle.octets.specs.Prelude.{decLt, arith, length, getD, take, drop, length-append, length-take, length-drop}
 use Rattle.octets.specs.Prelude.{List·getD-append, getD-take, getD-drop, ltb, bitXor, lt-ltb, le-ltb}

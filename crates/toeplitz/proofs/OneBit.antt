@@ -1,8 +1,6 @@
 -- Inputs with a single bit set: their octets, their bits, and their hash, which is the window at that bit.
--- Assumes nothing.
-use Rattle.octets.specs.Prelude.{_≡_, refl, ap, _∙_, List, ℕ, zero, suc, _+_, _*_, _/_, _%_, _^_, _-_, _<_}
-use Rattle.octets.specs.Prelude.{ℕ-discrete, arith, length, getD, replicate, length-set, length-replicate, getD-set-same}
-use Rattle.octets.specs.Prelude.{getD-set-other, decLt, pow-suc}
+use Rattle.octets.specs.Prelude.{_≡_, refl, ap, _∙_, List, ℕ, zero, suc, _+_, _*_, _/_, _%_, _^_, _-_, _<_, ℕ-discrete, arith, length, getD}
+use Rattle.octets.specs.Prelude.{replicate, length-set, length-replicate, getD-set-same, getD-set-other, decLt, pow-suc}
 use native.Mathlib.Nat.{zero-div, one-mul, div-eq-of-lt, mul-mod-left}
 use lib.Pow.{pow-lt, pow-add, shl-shr}
 use Rattle.toeplitz.specs.Hash.{bitAt, windowAt, whenSet, termAt, xorBelow, publishedHash}

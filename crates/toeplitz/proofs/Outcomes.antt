@@ -1,6 +1,5 @@
 -- A call that refuses 8 for a key's length, then r for a number n above its limit: when it answers its value, and when
 -- each refusal. Both calls are of this kind.
--- Assumes nothing.
 use Rattle.octets.specs.Prelude.{_≡_, refl, sym, ap, ap₂, _∙_, List, _↔_, Bool, true, false, cond, ℕ, _≤_, _<_, length, eqb, leb}
 use Rattle.octets.specs.Prelude.{eq-eqb, ne-eqb, eqb-true, eqb-false, le-leb, lt-leb, leb-true, leb-false}
 use Rattle.octets.specs.Outcome.{Outcome, value, refused}

@@ -1,8 +1,6 @@
 -- A key that repeats every two octets: windows 16 bits apart are equal, and an input's bit and its mirror stand
 -- a multiple of 16 bits apart.
--- Assumes nothing.
-use Rattle.octets.specs.Prelude.{_≡_, refl, sym, ap, ap₂, _∙_, List, ℕ, zero, suc, _+_, _*_, _/_, _%_, _^_, _-_, _≤_, _<_, arith}
-use Rattle.octets.specs.Prelude.{getD}
+use Rattle.octets.specs.Prelude.{_≡_, refl, sym, ap, ap₂, _∙_, List, ℕ, zero, suc, _+_, _*_, _/_, _%_, _^_, _-_, _≤_, _<_, arith, getD}
 use Rattle.toeplitz.specs.Hash.{bitAt, bitsAt, windowAt}
 use Rattle.toeplitz.specs.TwoWay.{sizeOf, RepeatsEveryTwo, agree, verdict}
 use Rattle.toeplitz.proofs.Mirror.{part1, part2, part3, part4, place, mirror1, mirror2, mirror3, mirror4}

@@ -1,5 +1,4 @@
 -- The reverse of an input of a type is an input of the type, and its own reverse is the input again.
--- Assumes nothing.
 use Rattle.octets.specs.Prelude.{_≡_, ap, _∙_, List, ℕ, _<_, decLt, arith, length, getD}
 use lib.ListN.{List·getD-eq-default}
 use lib.Seq.{ext-getD}

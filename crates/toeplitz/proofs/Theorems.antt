@@ -1,15 +1,12 @@
 -- What readers ask of the calls, proved of the definitions that their contracts cite: demand 3 whole, the step of the window, the order of
 -- the refusals, and how to choose a key under which both directions meet.
--- Assumes nothing.
-use Rattle.octets.specs.Prelude.{_≡_, refl, sym, ap, ap₂, _∙_, List, _↔_, _⊎_, inl, inr, not, cond, ℕ, zero, suc, _+_, _*_, _≤_}
-use Rattle.octets.specs.Prelude.{_<_, add-one, arith, length, getD, bitXor, eqb, lit≤, eq-eqb, ne-eqb, eqb-true, eqb-false}
-use Rattle.octets.specs.Prelude.{not-true, not-false}
+use Rattle.octets.specs.Prelude.{_≡_, refl, sym, ap, ap₂, _∙_, List, _↔_, _⊎_, inl, inr, not, cond, ℕ, zero, suc, _+_, _*_, _≤_, _<_, add-one, arith}
+use Rattle.octets.specs.Prelude.{length, getD, bitXor, eqb, lit≤, eq-eqb, ne-eqb, eqb-true, eqb-false, not-true, not-false}
 use lib.Bits.{xor-lt}
 use Rattle.octets.specs.Numbers.{AreOctets}
 use Rattle.octets.specs.Outcome.{Outcome, value, refused, valueOr}
 use Rattle.toeplitz.specs.Refusals.{inputTooLong, keyLengthWrong, typeUnknown}
-use Rattle.toeplitz.specs.Hash.{keyLength, maxInput, bitAt, windowAt, whenSet, termAt, xorBelow, publishedHash}
-use Rattle.toeplitz.specs.Hash.{hashOutcome, hashOutcomeOf}
+use Rattle.toeplitz.specs.Hash.{keyLength, maxInput, bitAt, windowAt, whenSet, termAt, xorBelow, publishedHash, hashOutcome, hashOutcomeOf}
 use Rattle.toeplitz.specs.Step.{stepped, windowAfter}
 use Rattle.toeplitz.specs.Xor.{xorOctets}
 use Rattle.toeplitz.specs.TwoWay.{lastType, inputSize, IsInput, reverseOf, singleBit, EqualHashes, tellsApart}

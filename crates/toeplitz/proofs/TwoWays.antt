@@ -1,6 +1,5 @@
 -- Why single bits are enough for the two-way question: a bit tells an input from its reverse exactly where
 -- the window at the bit is not that at its mirror, and where all are equal so are all hashes.
--- Assumes nothing.
 use Rattle.octets.specs.Prelude.{_≡_, sym, ap, ap₂, _∙_, List, _↔_, true, false, not, ℕ, _*_, _<_, arith, length, eqb, eq-eqb}
 use Rattle.octets.specs.Prelude.{ne-eqb, eqb-true, not-false}
 use Rattle.toeplitz.specs.Hash.{bitAt, windowAt, whenSet, termAt, xorBelow, publishedHash}

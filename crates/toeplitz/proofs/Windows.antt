@@ -1,5 +1,4 @@
 -- Windows of a key: from one to the next, and from four octets. The sum of a hash: from one input bit to the next.
--- Assumes nothing.
 use Rattle.octets.specs.Prelude.{_≡_, refl, sym, ap, ap₂, _∙_, List, Bool, cond, ℕ, zero, suc, _+_, _*_, _/_, _%_, _^_, _-_, _<_}
 use Rattle.octets.specs.Prelude.{add-zero, zero-add, add-assoc, pow-suc, add-one, arith, getD, eqb, bitXor, xor-zero-r}
 use native.Mathlib.Nat.{add-suc, zero-mul, mul-assoc}

@@ -1,5 +1,4 @@
 -- The published hash of a key and an input, and what a hash call answers.
--- Assumes nothing.
 use Rattle.octets.specs.Prelude.{List, cond, ℕ, zero, suc, _+_, _-_, _*_, _/_, _%_, _^_, length, getD, eqb, leb, bitXor}
 use Rattle.octets.specs.Outcome.{Outcome, value, refused}
 use Rattle.toeplitz.specs.Refusals.{inputTooLong, keyLengthWrong}

@@ -1,5 +1,4 @@
 -- What the private functions promise each other. Nothing here is needed to read the promises of the calls.
--- Assumes nothing.
 use Rattle.octets.specs.Prelude.{List, ℕ}
 use Rattle.toeplitz.specs.Hash.{termAt, xorBelow}
 

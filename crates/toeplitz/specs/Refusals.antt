@@ -1,5 +1,4 @@
 -- The refusals of this crate, by document 01's numbers.
--- Assumes nothing.
 use Rattle.octets.specs.Prelude.{ℕ}
 
 -- hash input above 36 octets

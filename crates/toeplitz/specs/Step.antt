@@ -1,5 +1,4 @@
 -- The step of the window: how one window is made of the one before it and the next key bit.
--- Assumes nothing.
 use Rattle.octets.specs.Prelude.{List, ℕ, zero, suc, _+_, _*_, _%_, getD}
 use Rattle.toeplitz.specs.Hash.{bitAt}
 

@@ -1,5 +1,4 @@
 -- The inputs of each hash type, the reverse of an input, and what the two-way question answers.
--- Assumes nothing.
 use Rattle.octets.specs.Prelude.{_≡_, List, _++_, Bool, true, false, not, cond, ℕ, zero, suc, _+_, _-_, _*_, _/_, _%_, _^_, _<_}
 use Rattle.octets.specs.Prelude.{length, getD, take, drop, set, replicate, eqb, leb}
 use Rattle.octets.specs.Numbers.{AreOctets}

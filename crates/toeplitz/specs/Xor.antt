@@ -1,5 +1,4 @@
 -- The XOR of two keys, or of two inputs of one length: octet by octet.
--- Assumes nothing.
 use Rattle.octets.specs.Prelude.{List, [], _∷_, ℕ, bitXor}
 
 -- (of two lists of unequal length, the longer one's other octets stay)

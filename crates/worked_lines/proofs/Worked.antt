@@ -1,5 +1,4 @@
 -- The worked lines hold: hashes, queue and offsets by computation, the two-way answers by the law that finds them from windows alone.
--- Assumes nothing.
 use Rattle.octets.specs.Prelude.{_≡_, refl, _∙_, List, not, ℕ, _*_, _≤_, eqb, lit≤, length}
 use Rattle.octets.specs.Outcome.{value}
 use Rattle.toeplitz.specs.Hash.{keyLength, bitsAt, windowAt, whenSet, termAt, xorBelow, publishedHash}

@@ -1,5 +1,4 @@
 -- The worked lines as rows: each kind of line has a constructor, and `Holds` says what it claims of the definitions.
--- Assumes nothing.
 use Rattle.octets.specs.Prelude.{_≡_, List, [], _∷_, _++_, ℕ, zero, suc, replicate, set}
 use Rattle.octets.specs.Outcome.{value}
 use Rattle.toeplitz.specs.Hash.{hashOutcome}

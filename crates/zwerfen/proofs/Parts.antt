@@ -1,5 +1,4 @@
 -- An interface and a guest in memory are their parts, side by side, and back, as `Structs.antt` of the crate `lending` has it.
--- Assumes nothing.
 use Rattle.octets.specs.Prelude.{List, [], _∷_, Bool, true, false}
 use mir.Syntax.{w8, w64}
 use Rattle.interface.proofs.Interface as T

@@ -1,17 +1,12 @@
 -- `frontend::reader::read_ack` meets its contract: each test on the way to a return is one of what an ack asks for.
--- Assumes nothing.
 use Rattle.octets.specs.Prelude.{sym, ap, _∙_, ℕ, _≤_, _<_, arith, needs, not-true, not-false}
 use Rattle.octets.specs.Outcome.{value}
 use Rattle.messages.specs.Wire.{success, bufferOverflow, allFlags}
 use Rattle.guest_messages.specs.Reader.{status, statusAndFlags}
-use Rattle.guest_messages.proofs.Accepts.{allowed-most, long-told, flags-told, refuse-short, refuse-type}
-use Rattle.guest_messages.proofs.Accepts.{refuse-length, refuse-flags-size, refuse-flags, accept-flags}
-use Rattle.guest_messages.proofs.Accepts.{refuse-size, refuse-status, accept-status}
+use Rattle.guest_messages.proofs.Accepts.{allowed-most, long-told, flags-told, refuse-short, refuse-type, refuse-length, refuse-flags-size}
+use Rattle.guest_messages.proofs.Accepts.{refuse-flags, accept-flags, refuse-size, refuse-status, accept-status}
 use Rattle.ack_reader.proofs.read_ack.Statement.{statement}
 use Rattle.ack_reader.proofs.read_ack.Tie as tie
-
-returns : tie.Need-returns
-returns c = refuse-short _ _ (c .if1 .taken)
 
 returns-2 : tie.Need-returns-2
 returns-2 c = refuse-type _ _ (λ e. c .if2 .taken (c .before .read-u32 .ensures ∙ e))
@@ -83,7 +78,7 @@ returns-9 c =
 
 pub read-ack-spec : {M : Type 1} → statement M
 read-ack-spec =
-    tie.close (tie.spec (λ c. search needs) returns (λ c κs. search needs) returns-2 (λ c κs. search needs) (λ c. search needs)
+    tie.close (tie.spec (λ c. search needs) (λ c. refuse-short _ _ (c .if1 .taken)) (λ c κs. search needs) returns-2 (λ c κs. search needs) (λ c. search needs)
     (λ c. search needs) returns-3 (λ c κs. search needs) (λ c κs. search needs) (λ c. search needs) returns-4 (λ c. search needs)
     (λ c κs. search needs) (λ c. search needs) returns-5 (λ c. search needs) returns-6 returns-7 (λ c κs. search needs) returns-8 cast-t16
     returns-9)

@@ -1,5 +1,4 @@
 -- `cases::take_case` meets its contract: the body of a case that is whole stands behind its start.
--- Assumes nothing.
 use Rattle.octets.specs.Prelude.{arith, length, needs}
 use Rattle.cases.specs.Cases.{Within}
 use Rattle.cases.specs.declared.Case.the-variants.{Body}

@@ -1,5 +1,4 @@
 -- `directions::address_size` meets its contract, by the cases of the definition.
--- Assumes nothing.
 use Rattle.octets.specs.Prelude.{_≡_, refl, ℕ, zero, suc, _≤_, _<_, arith}
 use Rattle.toeplitz.specs.TwoWay.{addressSize}
 use Rattle.directions.proofs.address_size.Statement.{statement}

@@ -1,5 +1,4 @@
 -- `directions::first_difference` meets its contract. The loop's invariant: the two windows, and that all below j are equal.
--- Assumes nothing.
 use Rattle.octets.specs.Prelude.{_≡_, sym, _∙_, _≤_, _+_, _*_, _-_, add-zero, add-assoc, arith, needs}
 use borrow.Author.Count.{below-more}
 use Rattle.toeplitz.specs.Hash.{windowAt}

@@ -1,5 +1,4 @@
 -- `directions::port_size` meets its contract, by the cases of the definition: the odd types have ports.
--- Assumes nothing.
 use Rattle.octets.specs.Prelude.{_≡_, refl, ℕ, zero, suc, _%_, _*_, _≤_, arith}
 use Rattle.toeplitz.specs.TwoWay.{portSize}
 use Rattle.directions.proofs.port_size.Statement.{statement}

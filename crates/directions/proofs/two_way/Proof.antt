@@ -1,5 +1,4 @@
 -- `directions::two_way` meets its contract: the tests and the two searches pick the case of `twoWayOutcome`.
--- Assumes nothing.
 use Rattle.octets.specs.Prelude.{_≡_, sym, ap, _∙_, List, ℕ, _+_, _*_, arith, needs, eq-eqb, ne-eqb, le-leb, lt-leb}
 use mathlib.Core.Path.{subst₂, subst₃}
 use Rattle.octets.specs.Outcome.{value}
@@ -39,12 +38,6 @@ module _ (e : tie.After-first-difference2) where
   second : {r : Found} → e .first-difference2 .result ≡ r → InPorts (key d₁) (addressSize (t d₁)) (portSize (t d₁)) r
   second q = subst₃ (InPorts (key d₁)) (address-ensures d₁) (d₁ .before .port-size .ensures .0) q (e .first-difference2 .ensures)
 
-returns : tie.Need-returns
-returns c = simp (ne-eqb _ _ (c .if1 .taken))
-
-returns-2 : tie.Need-returns-2
-returns-2 c = simp (eq-eqb _ _ (c .before .if1 .left), lt-leb _ _ (c .if2 .taken))
-
 returns-3 : tie.Need-returns-3
 returns-3 c =
     let d = c .before .before .before in
@@ -72,6 +65,6 @@ returns-5 c =
 
 pub two-way-spec : {M : Type 1} → statement M
 two-way-spec =
-    tie.close (tie.spec returns returns-2 (λ c κs. search needs) (λ c κs. search needs) (λ c κs. search needs) (λ c. search needs) returns-3
+    tie.close (tie.spec (λ c. simp (ne-eqb _ _ (c .if1 .taken))) (λ c. simp (eq-eqb _ _ (c .before .if1 .left), lt-leb _ _ (c .if2 .taken))) (λ c κs. search needs) (λ c κs. search needs) (λ c κs. search needs) (λ c. search needs) returns-3
     (λ c. search needs) (λ c. search needs) (λ c κs. search needs) (λ c. search needs) (λ c. search needs) add-t12 returns-4
     (λ c. search needs) returns-5)

@@ -1,6 +1,5 @@
 -- `event_stages::carry_over` meets its contract: type and size stand in the header, the request is carried out by them, and
 -- what it leaves is stored at its places.
--- Assumes nothing.
 use Rattle.octets.specs.Prelude.{_≡_, ap₂, _∙_, ℕ, arith, length, length-set, needs}
 use Rattle.messages.specs.Requests.{carriedOut}
 use Rattle.messages.proofs.Powers.{listed-parts}

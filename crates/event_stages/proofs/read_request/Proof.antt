@@ -1,6 +1,5 @@
 -- `event_stages::read_request` meets its contract: the octets read are counted at their places, and where no octet stands
 -- unread, reading would change nothing.
--- Assumes nothing.
 use Rattle.octets.specs.Prelude.{_≡_, ap, _∙_, List, ℕ, _-_, _^_, _<_, arith, length, length-set, needs}
 use Rattle.page.specs.Page.{requestsAt, advanced, offsets, octetsIn}
 use Rattle.ring.specs.Reading.{Incoming, received, receivedFrom}

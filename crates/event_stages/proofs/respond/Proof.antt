@@ -1,8 +1,6 @@
 -- `event_stages::respond` meets its contract: the ack octets that fit are sent and counted at their places, and the counts
 -- are written behind them.
--- Assumes nothing.
-use Rattle.octets.specs.Prelude.{_≡_, refl, ap, _∙_, List, cond, ℕ, _+_, arith, length, getD, set, length-set, ltb, needs, lt-ltb}
-use Rattle.octets.specs.Prelude.{le-ltb}
+use Rattle.octets.specs.Prelude.{_≡_, refl, ap, _∙_, List, cond, ℕ, _+_, arith, length, getD, set, length-set, ltb, needs, lt-ltb, le-ltb}
 use Rattle.page.specs.Page.{counted as writtenCounts}
 use Rattle.interface.specs.Events.{ackWritten, ackOwed}
 use Rattle.interface.specs.Inner.{Responds}

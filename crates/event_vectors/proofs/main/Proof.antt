@@ -1,5 +1,4 @@
 -- `event_vectors::main` ends, since it reads ten files at most. Every file leaves a good interface.
--- Assumes nothing.
 use Rattle.octets.specs.Prelude.{_≡_, _≤_, _-_, needs, length}
 use Rattle.interface.specs.States.{Good, stateOf}
 use Rattle.event_vectors.proofs.main.Statement.{statement}

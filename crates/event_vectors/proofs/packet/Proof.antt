@@ -1,5 +1,4 @@
 -- `event_vectors::packet` meets its contract: a listed number of entries fits an octet.
--- Assumes nothing.
 use Rattle.octets.specs.Prelude.{arith, needs}
 use Rattle.messages.proofs.Powers.{listed-parts}
 use Rattle.event_vectors.proofs.packet.Statement.{statement}

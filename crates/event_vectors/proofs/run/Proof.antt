@@ -1,5 +1,4 @@
 -- `event_vectors::run` ends and reads no octet outside: each case ends behind its start. Every case leaves a good interface.
--- Assumes nothing.
 use Rattle.octets.specs.Prelude.{_≡_, _≤_, _-_, needs, length}
 use Rattle.interface.specs.States.{Good, stateOf}
 use Rattle.event_vectors.proofs.run.Statement.{statement}

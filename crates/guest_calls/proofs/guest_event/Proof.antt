@@ -1,5 +1,4 @@
 -- `guest_calls::guest_event` meets its contract: the event is told by its number, and what its ack says.
--- Assumes nothing.
 use Rattle.octets.specs.Prelude.{ap, _∙_, needs}
 use Rattle.guest_steps.specs.Calls.{After}
 use Rattle.guest_steps.specs.declared.GuestAnswer.{GuestAnswer}

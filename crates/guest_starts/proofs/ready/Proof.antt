@@ -1,5 +1,4 @@
 -- `guest_starts::ready` meets its contract: what every call finds, and one test more.
--- Assumes nothing.
 use Rattle.octets.specs.Prelude.{needs}
 use Rattle.guest_steps.specs.Guest.{guestIn}
 use Rattle.guest_steps.proofs.Finds.{readied-refused, readied-idle, readied-busy}

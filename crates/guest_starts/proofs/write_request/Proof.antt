@@ -1,5 +1,4 @@
 -- `guest_starts::write_request` meets its contract: each case is what its writer promises.
--- Assumes nothing.
 use Rattle.octets.specs.Prelude.{needs}
 use Rattle.guest_starts.proofs.write_request.Statement.{statement}
 use Rattle.guest_starts.proofs.write_request.Tie as tie

@@ -1,5 +1,4 @@
 -- `guest_vectors::main` ends, since it reads ten files at most. Every file leaves both ends good.
--- Assumes nothing.
 use Rattle.octets.specs.Prelude.{_≡_, _≤_, _-_, needs, length}
 use Rattle.interface.specs.States.{Good, stateOf}
 use Rattle.guest_steps.specs.Guest.{Good as GoodGuest, stateOf as guestOf}

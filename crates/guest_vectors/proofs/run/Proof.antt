@@ -1,5 +1,4 @@
 -- `guest_vectors::run` ends and reads no octet outside: each case ends behind its start. Every case leaves both ends good.
--- Assumes nothing.
 use Rattle.octets.specs.Prelude.{_≡_, _≤_, _-_, needs, length}
 use Rattle.interface.specs.States.{Good, stateOf}
 use Rattle.guest_steps.specs.Guest.{Good as GoodGuest, stateOf as guestOf}

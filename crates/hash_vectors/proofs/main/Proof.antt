@@ -1,5 +1,4 @@
 -- `hash_vectors::main` ends: it reads ten files at most.
--- Assumes nothing.
 use Rattle.octets.specs.Prelude.{_≡_, _≤_, _-_, needs, length}
 use Rattle.hash_vectors.proofs.main.Statement.{statement}
 use Rattle.hash_vectors.proofs.main.Tie as tie

@@ -1,5 +1,4 @@
 -- `hash_vectors::run` ends and reads no octet outside: each case's body stands behind its start.
--- Assumes nothing.
 use Rattle.octets.specs.Prelude.{_≤_, _-_, arith, needs, length}
 use Rattle.cases.specs.Cases.{Within}
 use Rattle.cases.specs.declared.Case.the-variants.{Body}

@@ -1,5 +1,4 @@
 -- `message_vectors::main` ends, since it reads ten files at most.
--- Assumes nothing.
 use Rattle.octets.specs.Prelude.{_≡_, _≤_, _-_, needs, length}
 use Rattle.message_vectors.proofs.main.Statement.{statement}
 use Rattle.message_vectors.proofs.main.Tie as tie

@@ -1,5 +1,4 @@
 -- `message_vectors::run` ends and reads no octet outside: each case ends behind its start.
--- Assumes nothing.
 use Rattle.octets.specs.Prelude.{_≤_, _-_, needs, length}
 use Rattle.message_vectors.proofs.run.Statement.{statement}
 use Rattle.message_vectors.proofs.run.Tie as tie

@@ -1,5 +1,4 @@
 -- `octets::copy` meets its contract: once the words are copied, the rest is.
--- Assumes nothing.
 use Rattle.octets.specs.Prelude.{_≡_, length, needs}
 use Rattle.octets.proofs.Copies.{copied-start}
 use Rattle.octets.proofs.copy.Statement.{statement}

@@ -1,5 +1,4 @@
 -- `octets::copy_rest` meets its contract: dst is what it was, with src's first i octets at its start.
--- Assumes nothing.
 use Rattle.octets.specs.Prelude.{_≡_, refl, _++_, _≤_, _-_, arith, length, take, drop, length-set, needs}
 use Rattle.octets.proofs.Copies.{copied-next, copied-all}
 use Rattle.octets.proofs.copy_rest.Statement.{statement}

@@ -1,7 +1,5 @@
 -- `octets::copy_words` meets its contract: dst is what it was, with src's first i octets at its start.
--- Assumes nothing.
-use Rattle.octets.specs.Prelude.{_≡_, refl, ap, _∙_, _++_, ℕ, _+_, _≤_, _-_, arith, length, take, drop, sets, length-sets}
-use Rattle.octets.specs.Prelude.{needs}
+use Rattle.octets.specs.Prelude.{_≡_, refl, ap, _∙_, _++_, ℕ, _+_, _≤_, _-_, arith, length, take, drop, sets, length-sets, needs}
 use Rattle.octets.specs.Numbers.{octetsOf}
 use Rattle.octets.proofs.Copies.{copied-some}
 use Rattle.octets.proofs.Numbers.{octets-number}

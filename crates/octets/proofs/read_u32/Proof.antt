@@ -1,5 +1,4 @@
 -- `octets::read_u32` meets its contract: the four octets joined are the number by its definition.
--- Assumes nothing.
 use Rattle.octets.specs.Prelude.{sym, _∙_, needs}
 use Rattle.octets.proofs.Numbers.{number-four}
 use Rattle.octets.proofs.read_u32.Statement.{statement}

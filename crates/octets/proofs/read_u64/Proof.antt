@@ -1,5 +1,4 @@
 -- `octets::read_u64` meets its contract: eight octets are four and four.
--- Assumes nothing.
 use Rattle.octets.specs.Prelude.{sym, ap₂, _∙_, ℕ, _+_, _*_, needs}
 use Rattle.octets.proofs.Numbers.{number-add}
 use Rattle.octets.proofs.read_u64.Statement.{statement}

@@ -1,5 +1,4 @@
 -- `octets::write_u32` meets its contract: the four stores are those of `sets`.
--- Assumes nothing.
 use Rattle.octets.specs.Prelude.{arith, length-set, needs}
 use Rattle.octets.proofs.Numbers.{stored-four}
 use Rattle.octets.proofs.write_u32.Statement.{statement}

@@ -1,5 +1,4 @@
 -- `octets::write_u64` meets its contract: eight octets are four and four.
--- Assumes nothing.
 use Rattle.octets.specs.Prelude.{_∙_, needs}
 use Rattle.octets.proofs.Numbers.{stored-eight}
 use Rattle.octets.proofs.write_u64.Statement.{statement}

@@ -1,5 +1,4 @@
 -- `packet::is_fragment` meets its contract: the two octets as one number, under the mask, tell a fragment.
--- Assumes nothing.
 use Rattle.octets.specs.Prelude.{ap, _∙_, not, ℕ, bitAnd, eqb, needs}
 use Rattle.packet.specs.Packets.{fragmentField}
 use Rattle.packet.proofs.Fragments.{fragment-told}

@@ -1,5 +1,4 @@
 -- `packet::is_ipv4` meets its contract: the octet is looked at only where the packet is long enough.
--- Assumes nothing.
 use Rattle.octets.specs.Prelude.{refl, _≤_, _<_, arith, length, needs, le-leb, lt-leb}
 use Rattle.packet.specs.Packets.{isIpv4}
 use Rattle.packet.proofs.is_ipv4.Statement.{statement}

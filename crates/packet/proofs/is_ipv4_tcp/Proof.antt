@@ -1,5 +1,4 @@
 -- `packet::is_ipv4_tcp` meets its contract: the fragment field is looked at only where a TCP packet is long enough for it.
--- Assumes nothing.
 use Rattle.octets.specs.Prelude.{sym, ap, _∙_, not, arith, needs}
 use Rattle.packet.proofs.Theorems.{tcp-long}
 use Rattle.packet.proofs.Looks.{tcp-unless-fragment, not-tcp}

@@ -1,5 +1,4 @@
 -- `packet::is_tcp` meets its contract: the octet is looked at only where the packet is long enough.
--- Assumes nothing.
 use Rattle.octets.specs.Prelude.{refl, needs, le-leb, lt-leb}
 use Rattle.packet.specs.Packets.{isTcp}
 use Rattle.packet.proofs.is_tcp.Statement.{statement}

@@ -1,5 +1,4 @@
 -- `packet::look` meets its contract: each return has passed the tests of its kind.
--- Assumes nothing.
 use Rattle.octets.specs.Prelude.{sym, ap, _∙_, needs}
 use Rattle.packet.specs.Packets.{lookOf}
 use Rattle.packet.proofs.Looks.{found-ipv4-tcp, found-ipv4, found-ipv6-tcp, found-ipv6, found-none}

@@ -1,5 +1,4 @@
 -- `packet_vectors::main` ends, since it reads ten files at most, and the settings that it keeps fit their buffer.
--- Assumes nothing.
 use Rattle.octets.specs.Prelude.{_≡_, _≤_, _-_, needs, length}
 use Rattle.packet_vectors.proofs.main.Statement.{statement}
 use Rattle.packet_vectors.proofs.main.Tie as tie

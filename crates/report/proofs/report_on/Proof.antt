@@ -1,5 +1,4 @@
 -- `report::report_on` meets its contract: the lengths of the files, then the settings, then the capture.
--- Assumes nothing.
 use Rattle.octets.specs.Prelude.{sym, ap, _∙_, needs}
 use Rattle.settings_file.specs.Loading.{outcomeOf, settingsHeld}
 use Rattle.settings_file.specs.declared.Answer.{Answer}

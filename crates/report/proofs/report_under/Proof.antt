@@ -1,5 +1,4 @@
 -- `report::report_under` meets its contract: the header first, then the records.
--- Assumes nothing.
 use Rattle.octets.specs.Prelude.{sym, ap, _∙_, needs}
 use Rattle.capture.specs.Header.{headerOutcomeOf}
 use Rattle.settings_file.specs.Loading.{settingsHeld}

@@ -1,5 +1,4 @@
 -- `report_text::counted_lines` meets its contract: three growths behind the lines of the queues.
--- Assumes nothing.
 use Rattle.octets.specs.Prelude.{needs}
 use Rattle.text.proofs.Growth.{adds-then, prints-then}
 use Rattle.report_text.specs.ReportLines.{countedLines}

@@ -1,6 +1,5 @@
 -- `report_text::queue_lines` meets its contract. The loop's invariant: the text holds the lines of the first k queues,
 -- each of at most `longestQueue` octets.
--- Assumes nothing.
 use Rattle.octets.specs.Prelude.{_≡_, ℕ, _≤_, _-_, _*_, arith, needs}
 use Rattle.text.specs.Text.{Adds}
 use Rattle.text.proofs.Growth.{adds-none, adds-then, prints}

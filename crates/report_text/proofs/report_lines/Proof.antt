@@ -1,5 +1,4 @@
 -- `report_text::report_lines` meets its contract: the lines of the counts, or a refusal behind an empty text.
--- Assumes nothing.
 use Rattle.octets.specs.Prelude.{needs}
 use Rattle.text.proofs.Growth.{prints}
 use Rattle.report_text.proofs.report_lines.Statement.{statement}

@@ -1,5 +1,4 @@
 -- `report_text::report_text` meets its contract: the lines of the report that is made.
--- Assumes nothing.
 use Rattle.octets.specs.Prelude.{subst, needs}
 use Rattle.octets.specs.Outcome.{Outcome}
 use Rattle.text.specs.Text.{Prints}

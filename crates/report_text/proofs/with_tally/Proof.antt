@@ -1,5 +1,4 @@
 -- `report_text::with_tally` meets its contract: four growths, one after the other.
--- Assumes nothing.
 use Rattle.octets.specs.Prelude.{arith, needs}
 use Rattle.text.proofs.Growth.{adds-then}
 use Rattle.report_text.proofs.with_tally.Statement.{statement}

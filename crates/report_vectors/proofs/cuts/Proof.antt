@@ -1,5 +1,4 @@
 -- `report_vectors::cuts` ends, and cuts inside the file.
--- Assumes nothing.
 use Rattle.octets.specs.Prelude.{_-_, _≤_, length, needs}
 use Rattle.report_vectors.proofs.cuts.Statement.{statement}
 use Rattle.report_vectors.proofs.cuts.Tie as tie

@@ -1,5 +1,4 @@
 -- `report_vectors::main` ends, since it reads ten files of cases at most, and what it keeps fits its buffers.
--- Assumes nothing.
 use Rattle.octets.specs.Prelude.{_≡_, _≤_, _-_, needs, length}
 use Rattle.report_vectors.specs.Keeping.{Fits}
 use Rattle.report_vectors.proofs.main.Statement.{statement}

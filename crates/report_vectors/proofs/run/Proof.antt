@@ -1,6 +1,5 @@
 -- `report_vectors::run` ends and reads no octet outside: each case's body stands behind its start. No case keeps a file
 -- that does not fit its buffer.
--- Assumes nothing.
 use Rattle.octets.specs.Prelude.{_≡_, _≤_, _-_, arith, needs, length}
 use Rattle.cases.specs.Cases.{Within}
 use Rattle.cases.specs.declared.Case.the-variants.{Body}

@@ -1,5 +1,4 @@
 -- `requests::answer` meets its contract: only a get flags that succeeded is acked with flags.
--- Assumes nothing.
 use Rattle.octets.specs.Prelude.{⊎-elim, needs}
 use Rattle.messages.specs.Requests.{requestOf}
 use Rattle.messages.proofs.Types.{no-flags}

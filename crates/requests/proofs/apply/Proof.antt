@@ -1,5 +1,4 @@
 -- `requests::apply` meets its contract: the tests on the type tell the request.
--- Assumes nothing.
 use Rattle.octets.specs.Prelude.{needs, ne-eqb}
 use Rattle.messages.specs.Settings.{settingsOf}
 use Rattle.messages.specs.Requests.{none, requestOf}

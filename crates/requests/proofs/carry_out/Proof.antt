@@ -1,5 +1,4 @@
 -- `requests::carry_out` meets its contract: the settings that are left, and the ack of the status.
--- Assumes nothing.
 use Rattle.octets.specs.Prelude.{needs}
 use Rattle.requests.proofs.carry_out.Statement.{statement}
 use Rattle.requests.proofs.carry_out.Tie as tie

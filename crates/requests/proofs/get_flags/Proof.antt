@@ -1,5 +1,4 @@
 -- `requests::get_flags` meets its contract: the test picks the row of the table.
--- Assumes nothing.
 use Rattle.messages.specs.Requests.{getFlags}
 use Rattle.messages.proofs.Statuses.{get-flags-size, get-flags-done}
 use Rattle.messages.proofs.Effects.{carried-refused, carried-flags}
@@ -9,8 +8,5 @@ use Rattle.requests.proofs.get_flags.Tie as tie
 returns : tie.Need-returns
 returns c s p = carried-refused getFlags s _ p 1 (get-flags-size _ _ _ (c .if1 .taken))
 
-returns-2 : tie.Need-returns-2
-returns-2 c s p = carried-flags s _ p (get-flags-done _ _ _ (c .if1 .left))
-
 pub get-flags-spec : {M : Type 1} → statement M
-get-flags-spec = tie.close (tie.spec returns returns-2)
+get-flags-spec = tie.close (tie.spec returns (λ c s p. carried-flags s _ p (get-flags-done _ _ _ (c .if1 .left))))

@@ -1,5 +1,4 @@
 -- `requests::set_flags` meets its contract: the tests on the way to each return pick the row of the table.
--- Assumes nothing.
 use Rattle.octets.specs.Prelude.{_<_, arith, needs}
 use Rattle.messages.specs.Wire.{allFlags}
 use Rattle.messages.specs.Settings.{settingsOf}

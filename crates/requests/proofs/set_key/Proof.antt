@@ -1,5 +1,4 @@
 -- `requests::set_key` meets its contract: the test picks the row of the table, and the key is the copied part.
--- Assumes nothing.
 use Rattle.octets.specs.Prelude.{needs}
 use Rattle.messages.specs.Settings.{settingsOf}
 use Rattle.messages.specs.Requests.{setKey}

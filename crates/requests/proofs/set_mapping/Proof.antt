@@ -1,5 +1,4 @@
 -- `requests::set_mapping` meets its contract: the tests on the way to each return pick the row of the table.
--- Assumes nothing.
 use Rattle.octets.specs.Prelude.{_≡_, sym, _∙_, true, _/_, _%_, arith, needs, not-true, not-false}
 use Rattle.messages.specs.Wire.{fieldSize}
 use Rattle.messages.specs.Settings.{isPowerOfTwo, settingsOf}

@@ -1,6 +1,5 @@
 -- `settings_file::carry_out` meets its contract: the library carries the message out on copies, from which the settings left
 -- are put together, and the status stands in the ack behind its header.
--- Assumes nothing.
 use Rattle.octets.specs.Prelude.{_≡_, ap, _∙_, List, ℕ, arith, length, needs}
 use Rattle.octets.specs.Numbers.{numberAt}
 use Rattle.messages.specs.Wire.{headerSize, fieldSize}

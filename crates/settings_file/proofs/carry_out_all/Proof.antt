@@ -1,5 +1,4 @@
 -- `settings_file::carry_out_all` meets its contract: what was carried out and what is left come to what all messages come to.
--- Assumes nothing.
 use Rattle.octets.specs.Prelude.{refl, _-_, arith, length, drop, length-drop, length-take-le, needs}
 use Rattle.settings_file.specs.Loading.{settingsHeld}
 use Rattle.settings_file.proofs.Firsts.{Reaches, reach-end, reach-stop, reach-next}

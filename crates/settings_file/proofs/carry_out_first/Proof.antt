@@ -1,5 +1,4 @@
 -- `settings_file::carry_out_first` meets its contract: a message that is cut short or not acked with success is refused.
--- Assumes nothing.
 use Rattle.octets.specs.Prelude.{_≡_, true, List, ℕ, _+_, _-_, arith, length, take, drop, le-leb, lt-leb, needs}
 use Rattle.messages.specs.Wire.{headerSize, typeIn, sizeIn}
 use Rattle.messages.specs.Requests.{carriedOut}

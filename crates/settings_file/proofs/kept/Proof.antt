@@ -1,5 +1,4 @@
 -- `settings_file::kept` meets its contract: what is copied is the payload, unless it is longer.
--- Assumes nothing.
 use Rattle.octets.specs.Prelude.{_≡_, refl, _∙_, _-_, arith, replicate, needs}
 use Rattle.messages.specs.Wire.{maxPayload}
 use Rattle.settings_file.proofs.Firsts.{keeps-copied}

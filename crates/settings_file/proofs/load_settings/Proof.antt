@@ -1,5 +1,4 @@
 -- `settings_file::load_settings` meets its contract: the queue count first, then the messages behind it.
--- Assumes nothing.
 use Rattle.octets.specs.Prelude.{_≡_, sym, ap, _∙_, List, ℕ, _-_, _<_, arith, length, getD, drop, length-drop, take-all, needs}
 use Rattle.octets.specs.Outcome.{numberOf}
 use Rattle.messages.specs.Settings.{Settings, Good}

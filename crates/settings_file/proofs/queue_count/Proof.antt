@@ -1,5 +1,4 @@
 -- `settings_file::queue_count` meets its contract: a missing octet reads as 0.
--- Assumes nothing.
 use Rattle.octets.specs.Prelude.{sym, arith, needs}
 use lib.ListN.{List·getD-eq-default}
 use Rattle.settings_file.proofs.queue_count.Statement.{statement}

@@ -1,6 +1,5 @@
 -- `settings_file::set_up` meets its contract: the library sets up in place, and where it refuses, the placeholder stays. Either
 -- settings are good, so their numbers fit an octet.
--- Assumes nothing.
 use Rattle.octets.specs.Prelude.{_≡_, ap, _≤_, needs}
 use Rattle.messages.specs.Settings.{Settings, maxEntries, Good}
 use Rattle.messages.proofs.Powers.{listed-parts}

@@ -1,5 +1,4 @@
 -- `steering::at_hash` meets its contract: the hash modulo the entry count is below it.
--- Assumes nothing.
 use Rattle.octets.specs.Prelude.{refl, mod-lt, needs}
 use Rattle.steering.specs.Steering.{queueOf}
 use Rattle.steering.proofs.at_hash.Statement.{statement}

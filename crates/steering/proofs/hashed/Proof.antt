@@ -1,5 +1,4 @@
 -- `steering::hashed` meets its contract: neither refusal of the hash call is met, so the hash is the published one.
--- Assumes nothing.
 use Rattle.octets.specs.Prelude.{_≡_, _∙_, needs}
 use Rattle.toeplitz.specs.Hash.{publishedHash}
 use Rattle.toeplitz.proofs.Theorems.{hash-or-published}

@@ -1,5 +1,4 @@
 -- `steering::is_set` meets its contract: the flag is the bit that the shift leaves lowest.
--- Assumes nothing.
 use Rattle.octets.specs.Prelude.{refl, needs}
 use Rattle.steering.specs.Steering.{isSet}
 use Rattle.steering.proofs.is_set.Statement.{statement}

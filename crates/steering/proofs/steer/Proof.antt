@@ -1,5 +1,4 @@
 -- `steering::steer` meets its contract: the places found are those of the packet's own type, and stand inside the packet.
--- Assumes nothing.
 use Rattle.octets.specs.Prelude.{ap, _∙_, arith, needs}
 use Rattle.steering.specs.Steering.{choiceOf}
 use Rattle.steering.proofs.Choices.{steered-not-ip, Places, places, part-length, steered-part}

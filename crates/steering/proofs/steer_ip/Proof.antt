@@ -1,5 +1,4 @@
 -- `steering::steer_ip` meets its contract: the tests on the flags pick the type.
--- Assumes nothing.
 use Rattle.octets.specs.Prelude.{_≡_, sym, ap, _∙_, _-_, _≤_, arith, length, length-take, needs}
 use Rattle.toeplitz.specs.Hash.{maxInput}
 use Rattle.steering.specs.Steering.{choiceOf}

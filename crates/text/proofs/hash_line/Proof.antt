@@ -1,5 +1,4 @@
 -- `text::hash_line` meets its contract: the line behind an empty text.
--- Assumes nothing.
 use Rattle.octets.specs.Prelude.{needs}
 use Rattle.text.proofs.Growth.{prints}
 use Rattle.text.proofs.hash_line.Statement.{statement}

@@ -1,5 +1,4 @@
 -- `text::hash_text` meets its contract: where fewer than 40 octets were read, all are the key and none the input.
--- Assumes nothing.
 use Rattle.octets.specs.Prelude.{_≡_, sym, ap, ap₂, _∙_, List, ℕ, _-_, min, decLt, arith, needs, length, take, drop, length-drop}
 use Rattle.octets.specs.Prelude.{drop-of-length-le, length-take-le, take-all}
 use Rattle.toeplitz.specs.Hash.{keyLength, hashOutcome}

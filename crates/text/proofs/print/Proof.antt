@@ -1,5 +1,4 @@
 -- `text::print` meets its contract: what is written is a part of the array.
--- Assumes nothing.
 use Rattle.octets.specs.Prelude.{sym, needs, length-take-le}
 use Rattle.text.proofs.print.Statement.{statement}
 use Rattle.text.proofs.print.Tie as tie

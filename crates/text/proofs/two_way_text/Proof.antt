@@ -1,5 +1,4 @@
 -- `text::two_way_text` meets its contract: a refusal, or four growths from an empty text, each with the answer of its type.
--- Assumes nothing.
 use Rattle.octets.specs.Prelude.{List, ℕ, needs, eq-eqb, ne-eqb}
 use Rattle.text.specs.Text.{Prints}
 use Rattle.text.specs.Lines.{typeLines}

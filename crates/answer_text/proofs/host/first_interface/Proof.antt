@@ -1,5 +1,4 @@
 -- `answer_text::host::first_interface` meets its contract: a new interface with one queue is good.
--- Assumes nothing.
 use Rattle.octets.specs.Prelude.{arith}
 use Rattle.backend.proofs.Goodness.{good-interface}
 use Rattle.answer_text.proofs.host.first_interface.Statement.{statement}

@@ -1,5 +1,4 @@
 -- `answer_text::host::set_up_with` meets its contract: setup gives a good interface, or leaves the one that there is.
--- Assumes nothing.
 use Rattle.octets.specs.Prelude.{_≡_, _&&_, ℕ, leb, needs, leb-true}
 use Rattle.octets.specs.Outcome.{Outcome, placed, itself}
 use Rattle.octets.proofs.Truth.{both-true, by-test}

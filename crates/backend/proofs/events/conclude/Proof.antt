@@ -1,6 +1,5 @@
 -- `backend::events::conclude` meets its contract: its test is that of `afterRead`, and what it calls does what the definitions
 -- say.
--- Assumes nothing.
 use Rattle.octets.specs.Prelude.{_≡_, sym, subst, _∙_, needs}
 use Rattle.interface.specs.States.{HostState, Good, interfaceIn}
 use Rattle.interface.specs.Events.{carriedOver}

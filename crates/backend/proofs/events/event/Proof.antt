@@ -1,5 +1,4 @@
 -- `backend::events::event` meets its contract: its tests are those of `eventOf`, in their order.
--- Assumes nothing.
 use Rattle.octets.specs.Prelude.{_≡_, sym, ap, subst, _∙_, List, ℕ, _≤_, _<_, arith, length, needs}
 use Rattle.page.specs.Page.{pageSize, areaSize}
 use Rattle.interface.specs.States.{HostState, Good, interfaceIn}

@@ -1,6 +1,5 @@
 -- `backend::events::proceed` meets its contract: its test is that of `proceeded`, and what it calls does what the definitions say
 -- of each stage.
--- Assumes nothing.
 use Rattle.octets.specs.Prelude.{_≡_, sym, subst, _∙_, List, ℕ, needs, lt-ltb, le-ltb}
 use Rattle.interface.specs.States.{HostState, interfaceIn}
 use Rattle.interface.specs.Events.{readIn}

@@ -1,5 +1,4 @@
 -- `by_number::driver::tell_answer` meets its contract: each case of the answer is told by its number and values.
--- Assumes nothing.
 use Rattle.octets.specs.Prelude.{refl, needs}
 use Rattle.by_number.proofs.guest.tell_answer.Statement.{statement}
 use Rattle.by_number.proofs.guest.tell_answer.Tie as tie

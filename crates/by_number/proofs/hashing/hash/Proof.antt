@@ -1,5 +1,4 @@
 -- `by_number::hash` meets its contract: each case of the answer is told by its number and value.
--- Assumes nothing.
 use Rattle.octets.specs.Prelude.{_≡_, sym, ap, _∙_, ℕ, needs}
 use Rattle.octets.specs.Outcome.{Outcome, numberOf, placed, itself}
 use Rattle.toeplitz.specs.Hash.{hashOutcome, hashOutcomeOf}

@@ -1,5 +1,4 @@
 -- `by_number::two_way` meets its contract: each case of the answer is told by its number and values.
--- Assumes nothing.
 use Rattle.octets.specs.Prelude.{_≡_, sym, ap, _∙_, ℕ, needs}
 use Rattle.octets.specs.Outcome.{Outcome, numberOf, placed}
 use Rattle.toeplitz.specs.TwoWay.{Verdict, twoWayOutcome, twoWayOutcomeOf}

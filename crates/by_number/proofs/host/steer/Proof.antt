@@ -1,5 +1,4 @@
 -- `by_number::host::steer` meets its contract: each case of the answer is told by its number and values.
--- Assumes nothing.
 use Rattle.octets.specs.Prelude.{_≡_, refl, sym, ap, _∙_, arith, needs}
 use Rattle.messages.proofs.Powers.{listed-parts}
 use Rattle.steering.specs.Steering.{Choice, choiceOf, queueIn}

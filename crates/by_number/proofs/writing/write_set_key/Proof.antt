@@ -1,5 +1,4 @@
 -- `by_number::write_set_key` meets its contract: the writer's answer is told by its number and length.
--- Assumes nothing.
 use Rattle.octets.specs.Prelude.{needs}
 use Rattle.by_number.proofs.Told.{writes}
 use Rattle.by_number.proofs.writing.write_set_key.Statement.{statement}

@@ -1,12 +1,8 @@
 -- `capture::headers::header` meets its contract: length, magic number and version, then the link type.
--- Assumes nothing.
 use Rattle.octets.specs.Prelude.{sym, _∙_, not-true, not-false, needs}
 use Rattle.capture.proofs.Heads.{header-short, header-other, header-link}
 use Rattle.capture.proofs.headers.header.Statement.{statement}
 use Rattle.capture.proofs.headers.header.Tie as tie
-
-returns : tie.Need-returns
-returns c = header-short _ (c .if1 .taken)
 
 returns-2 : tie.Need-returns-2
 returns-2 c =
@@ -22,5 +18,5 @@ returns-3 c =
 
 pub header-spec : {M : Type 1} → statement M
 header-spec =
-    tie.close (tie.spec returns (λ c κs. search needs) (λ c κs. search needs) returns-2 (λ c κs. search needs) (λ c κs. search needs)
+    tie.close (tie.spec (λ c. header-short _ (c .if1 .taken)) (λ c κs. search needs) (λ c κs. search needs) returns-2 (λ c κs. search needs) (λ c κs. search needs)
     returns-3)

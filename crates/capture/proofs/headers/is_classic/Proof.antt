@@ -1,5 +1,4 @@
 -- `capture::headers::is_classic` meets its contract: each return has passed the tests before it.
--- Assumes nothing.
 use Rattle.octets.specs.Prelude.{refl, ne-eqb, needs}
 use Rattle.capture.specs.Header.{isClassic}
 use Rattle.capture.proofs.headers.is_classic.Statement.{statement}

@@ -1,5 +1,4 @@
 -- `capture::headers::link` meets its contract: the two link types, and no other.
--- Assumes nothing.
 use Rattle.octets.specs.Prelude.{refl, ne-eqb}
 use Rattle.capture.specs.Header.{linkOutcome}
 use Rattle.capture.proofs.headers.link.Statement.{statement}

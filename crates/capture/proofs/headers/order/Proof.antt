@@ -1,5 +1,4 @@
 -- `capture::headers::order` meets its contract: the first four octets are read highest first.
--- Assumes nothing.
 use Rattle.octets.specs.Prelude.{refl, ne-eqb, needs}
 use Rattle.capture.specs.Header.{orderOf}
 use Rattle.capture.proofs.headers.order.Statement.{statement}

@@ -1,5 +1,4 @@
 -- `capture::numbers::u16_at` meets its contract: the octets are joined in the order asked.
--- Assumes nothing.
 use Rattle.octets.specs.Prelude.{_∙_, needs}
 use Rattle.capture.proofs.Orders.{low-two, high-two}
 use Rattle.capture.proofs.numbers.u16_at.Statement.{statement}

@@ -1,5 +1,4 @@
 -- `capture::packets::holds_ip` meets its contract: the type is looked at only where the frame is long enough.
--- Assumes nothing.
 use Rattle.octets.specs.Prelude.{_≡_, refl, lt-leb, le-leb, ne-eqb, needs}
 use Rattle.capture.specs.Header.{bigEndianAt}
 use Rattle.capture.specs.Packets.{holdsIp}

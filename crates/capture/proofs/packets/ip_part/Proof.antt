@@ -1,5 +1,4 @@
 -- `capture::packets::ip_part` meets its contract: the part behind the header is there where the type was looked at.
--- Assumes nothing.
 use Rattle.octets.specs.Prelude.{refl, sym, _∙_, arith, _-_, length, drop, length-drop, take-all, needs}
 use Rattle.capture.specs.Packets.{ipPart}
 use Rattle.capture.proofs.Frames.{frame-long, frame-part, frame-none}

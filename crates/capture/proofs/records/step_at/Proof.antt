@@ -1,15 +1,8 @@
 -- `capture::records::step_at` meets its contract: nothing left, too little for a header, then the captured length.
--- Assumes nothing.
 use Rattle.octets.specs.Prelude.{arith, needs}
 use Rattle.capture.proofs.Steps.{step-ended, step-short, step-record, step-long, step-cut}
 use Rattle.capture.proofs.records.step_at.Statement.{statement}
 use Rattle.capture.proofs.records.step_at.Tie as tie
-
-returns : tie.Need-returns
-returns c = step-ended _ _ (c .if1 .taken)
-
-returns-2 : tie.Need-returns-2
-returns-2 c = step-short _ _ (c .before .if1 .left) (c .if2 .taken)
 
 returns-3 : tie.Need-returns-3
 returns-3 c =
@@ -30,5 +23,5 @@ returns-5 c =
 
 pub step-at-spec : {M : Type 1} → statement M
 step-at-spec =
-    tie.close (tie.spec returns (λ c. search needs) returns-2 (λ c κs. search needs) (λ c. search needs) (λ c κs. search needs)
+    tie.close (tie.spec (λ c. step-ended _ _ (c .if1 .taken)) (λ c. search needs) (λ c. step-short _ _ (c .before .if1 .left) (c .if2 .taken)) (λ c κs. search needs) (λ c. search needs) (λ c κs. search needs)
     (λ c. search needs) returns-3 (λ c. search needs) (λ c. search needs) returns-4 (λ c. search needs) (λ c. search needs) returns-5)

@@ -1,5 +1,4 @@
 -- `cases::buffer::make` ends and writes no octet outside; x stays below 2 ^ 32.
--- Assumes nothing.
 use Rattle.octets.specs.Prelude.{_≡_, _-_, _^_, _≤_, _<_, length, needs}
 use Rattle.cases.proofs.buffer.make.Statement.{statement}
 use Rattle.cases.proofs.buffer.make.Tie as tie

@@ -1,5 +1,4 @@
 -- `cases::entries::entries_in` ends and reads no octet outside: the place read stays at or below the last.
--- Assumes nothing.
 use Rattle.octets.specs.Prelude.{_≡_, _-_, _≤_, length, needs}
 use Rattle.cases.proofs.entries.entries_in.Statement.{statement}
 use Rattle.cases.proofs.entries.entries_in.Tie as tie

@@ -1,5 +1,4 @@
 -- `cases::print::digest` ends and reads no octet outside; the sum stays below 2 ^ 32.
--- Assumes nothing.
 use Rattle.octets.specs.Prelude.{_-_, _^_, _≤_, _<_, length, needs}
 use Rattle.cases.proofs.print.digest.Statement.{statement}
 use Rattle.cases.proofs.print.digest.Tie as tie

@@ -1,5 +1,4 @@
 -- `cases::print::print_form` ends and reads no octet outside: what is printed ends at or before the octet looked at.
--- Assumes nothing.
 use Rattle.octets.specs.Prelude.{_≡_, _-_, _≤_, ⊎-elim, arith, length, needs}
 use Rattle.cases.proofs.print.print_form.Statement.{statement}
 use Rattle.cases.proofs.print.print_form.Tie as tie

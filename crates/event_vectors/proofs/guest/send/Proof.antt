@@ -1,5 +1,4 @@
 -- `event_vectors::guest::send` ends and reads and writes no octet outside.
--- Assumes nothing.
 use Rattle.octets.specs.Prelude.{_≡_, _-_, _≤_, length, needs}
 use Rattle.event_vectors.proofs.guest.send.Statement.{statement}
 use Rattle.event_vectors.proofs.guest.send.Tie as tie

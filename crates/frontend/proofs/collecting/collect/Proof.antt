@@ -1,6 +1,5 @@
 -- `frontend::collecting::collect` meets its contract: what it leaves in each case of what is seen of the ack is what the
 -- definition says.
--- Assumes nothing.
 use Rattle.octets.specs.Prelude.{_≡_, refl, ap, _∙_, List, ℕ, _+_, getD, needs}
 use Rattle.messages.specs.Wire.{typeIn}
 use Rattle.page.specs.Page.{responsesAt}

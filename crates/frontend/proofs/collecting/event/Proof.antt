@@ -1,6 +1,5 @@
 -- `frontend::collecting::event` meets its contract: its tests are those of `eventOf`, in their order, and what it calls does what
 -- the definitions say of each case.
--- Assumes nothing.
 use Rattle.octets.specs.Prelude.{_≡_, sym, ap, _∙_, List, ℕ, needs, lt-ltb, le-ltb}
 use Rattle.octets.specs.Outcome.{value}
 use Rattle.guest_steps.specs.Guest.{GuestState, Good, guestIn}

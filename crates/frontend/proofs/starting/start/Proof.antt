@@ -1,5 +1,4 @@
 -- `frontend::starting::start` meets its contract: a start is stopped, its request is refused, or it begins.
--- Assumes nothing.
 use Rattle.octets.specs.Prelude.{_≡_, refl, sym, ap, _∙_, List, ℕ, _≤_, arith, length, length-append, length-drop, needs}
 use Rattle.octets.specs.Outcome.{Outcome, value, refused}
 use Rattle.guest_messages.specs.Refusals.{bufferTooShort, valueNotListed}

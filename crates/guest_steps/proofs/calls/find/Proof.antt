@@ -1,5 +1,4 @@
 -- `guest_steps::calls::find` meets its contract: its tests are those of `found`, in their order.
--- Assumes nothing.
 use Rattle.octets.specs.Prelude.{_≡_, _≤_, arith, length, needs}
 use Rattle.page.specs.Page.{pageSize, areaSize}
 use Rattle.guest_steps.proofs.Finds.{found-page, found-requests, found-responses, found-failed, found-counts}

@@ -1,6 +1,5 @@
 -- `guest_steps::calls::write_on` meets its contract: the octets of the request that fit are sent and counted at their places, and
 -- the counts are written behind them.
--- Assumes nothing.
 use Rattle.octets.specs.Prelude.{_≡_, refl, ap, _∙_, List, ℕ, _+_, arith, length, getD, length-set, ltb, needs}
 use Rattle.page.specs.Page.{countedByGuest}
 use Rattle.guest_steps.specs.Inner.{writtenAnswer}

@@ -1,8 +1,6 @@
 -- `guest_steps::seeing::judge` meets its contract: what the reader is handed is the header with the octets of the payload
 -- behind it.
--- Assumes nothing.
-use Rattle.octets.specs.Prelude.{_≡_, refl, sym, ap, ap₂, _∙_, List, _++_, ℕ, _+_, _-_, arith, length, take, replicate}
-use Rattle.octets.specs.Prelude.{length-append, needs}
+use Rattle.octets.specs.Prelude.{_≡_, refl, sym, ap, ap₂, _∙_, List, _++_, ℕ, _+_, _-_, arith, length, take, replicate, length-append, needs}
 use Rattle.messages.specs.Wire.{headerSize}
 use Rattle.guest_steps.specs.Guest.{maxAckPayload}
 use Rattle.guest_messages.specs.Reader.{readAck, ackOutcomeOf}
@@ -64,17 +62,8 @@ module _ (d : tie.After-read-ack) (a : AckAnswer) (e : d .read-ack .result ≡ a
       let given = handed ∙ ap₂ (λ (x y : List ℕ). x ++ take n y) (h .copy .ensures) (copied .copy2 .ensures) in
       ap judged (ap ackOutcomeOf (sym e) ∙ d .read-ack .ensures ∙ ap (readAck (from .args .kind)) given)
 
-returns : tie.Need-returns
-returns c = judges (c .before .before .before) _ (c .before .answer .given .1)
-
-returns-2 : tie.Need-returns-2
-returns-2 c = judges (c .before .before .before) _ (c .before .answer2 .given .1)
-
-returns-3 : tie.Need-returns-3
-returns-3 c = judges (c .before .before) _ (c .enum-told .given .1)
-
 pub judge-spec : {M : Type 1} → statement M
 judge-spec =
     tie.close (tie.spec (λ c. search needs) (λ c. search needs) (λ c. search needs) (λ c κs. search needs) (λ c. search needs)
     (λ c. search needs) part-message-end-2 (λ c κs. search needs) (λ c. search needs) (λ c. search needs) (λ c. search needs)
-    part-read-ack-end (λ c κs. search needs) (λ c. search needs) (λ c. search needs) (λ c. search needs) returns returns-2 returns-3)
+    part-read-ack-end (λ c κs. search needs) (λ c. search needs) (λ c. search needs) (λ c. search needs) (λ c. judges (c .before .before .before) _ (c .before .answer .given .1)) (λ c. judges (c .before .before .before) _ (c .before .answer2 .given .1)) (λ c. judges (c .before .before) _ (c .enum-told .given .1)))

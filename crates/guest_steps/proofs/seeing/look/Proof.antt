@@ -1,5 +1,4 @@
 -- `guest_steps::seeing::look` meets its contract: each test on the way to a return is one of what is seen of an ack.
--- Assumes nothing.
 use Rattle.octets.specs.Prelude.{_≡_, sym, _∙_, false, ⊎-elim, arith, needs, not-true, not-false}
 use Rattle.messages.specs.Wire.{sizeIn}
 use Rattle.ring.specs.Reading.{Message}
@@ -7,9 +6,6 @@ use Rattle.guest_steps.specs.Calls.{sizeWrong}
 use Rattle.guest_steps.proofs.Sights.{sees-no-header, sees-wrong, size-short, size-long, sees-part, sees-whole}
 use Rattle.guest_steps.proofs.seeing.look.Statement.{statement}
 use Rattle.guest_steps.proofs.seeing.look.Tie as tie
-
-returns : tie.Need-returns
-returns c = sees-no-header _ _ (c .if1 .taken)
 
 returns-2 : tie.Need-returns-2
 returns-2 c =
@@ -49,5 +45,5 @@ returns-4 c =
 
 pub look-spec : {M : Type 1} → statement M
 look-spec =
-    tie.close (tie.spec returns (λ c κs. search needs) returns-2 (λ c κs. search needs) returns-3 (λ c. search needs) judge-requires
+    tie.close (tie.spec (λ c. sees-no-header _ _ (c .if1 .taken)) (λ c κs. search needs) returns-2 (λ c κs. search needs) returns-3 (λ c. search needs) judge-requires
     returns-4)

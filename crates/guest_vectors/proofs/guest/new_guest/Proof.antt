@@ -1,5 +1,4 @@
 -- `guest_vectors::guest::new_guest` meets its contract: a guest at setup is good.
--- Assumes nothing.
 use Rattle.octets.specs.Prelude.{needs}
 use Rattle.frontend.proofs.Goodness.{good-at-setup}
 use Rattle.guest_vectors.proofs.guest.new_guest.Statement.{statement}

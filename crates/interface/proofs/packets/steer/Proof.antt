@@ -1,5 +1,4 @@
 -- `interface::packets::steer` meets its contract: the table is the listed number of entries, and can be asked.
--- Assumes nothing.
 use Rattle.octets.specs.Prelude.{_≡_, sym, ap, subst, _∙_, ℕ, arith, length, take, needs}
 use native.Mathlib.Nat.{sub-zero}
 use Rattle.toeplitz.specs.Hash.{keyLength}

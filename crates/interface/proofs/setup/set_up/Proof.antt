@@ -1,5 +1,4 @@
 -- `interface::setup::set_up` meets its contract: both tests are those of `setUpOutcome`, and what is written is the state at setup.
--- Assumes nothing.
 use Rattle.octets.specs.Prelude.{refl, arith, le-leb, lt-leb}
 use Rattle.messages.specs.Settings.{maxQueues}
 use Rattle.interface.specs.States.{setUpOutcome}

@@ -1,5 +1,4 @@
 -- `message_vectors::answers::print_octets` ends and reads no octet outside.
--- Assumes nothing.
 use Rattle.octets.specs.Prelude.{_-_, _≤_, length, needs}
 use Rattle.message_vectors.proofs.answers.print_octets.Statement.{statement}
 use Rattle.message_vectors.proofs.answers.print_octets.Tie as tie

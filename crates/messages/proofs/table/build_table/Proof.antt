@@ -1,5 +1,4 @@
 -- `messages::table::build_table` meets its contract: the entries so far are below the queue count, and the array holds them.
--- Assumes nothing.
 use Rattle.octets.specs.Prelude.{_≡_, refl, sym, true, false≢true, _≤_, _-_, length, arith, needs}
 use Rattle.messages.specs.Settings.{maxEntries, mappingOf}
 use Rattle.messages.specs.Requests.{entriesIn, allBelow}

@@ -1,5 +1,4 @@
 -- `messages::table::is_power_of_two` meets its contract, by the law of n AND (n - 1).
--- Assumes nothing.
 use Rattle.octets.specs.Prelude.{refl, needs}
 use Rattle.messages.specs.Settings.{isPowerBelow, isPowerOfTwo}
 use Rattle.messages.proofs.Powers.{power-told}
@@ -10,8 +9,5 @@ returns : tie.Need-returns
 unfolding isPowerBelow isPowerOfTwo
 returns c = rw (c .if1 .taken) refl
 
-returns-2 : tie.Need-returns-2
-returns-2 c = power-told _ (search needs)
-
 pub is-power-of-two-spec : {M : Type 1} → statement M
-is-power-of-two-spec = tie.close (tie.spec returns (λ c. search needs) returns-2)
+is-power-of-two-spec = tie.close (tie.spec returns (λ c. search needs) (λ c. power-told _ (search needs)))

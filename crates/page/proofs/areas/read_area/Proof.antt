@@ -1,5 +1,4 @@
 -- `ring::areas::read_area` meets its contract: the buffer is filled from one part of the page, or from two.
--- Assumes nothing.
 use Rattle.octets.specs.Prelude.{refl, ℕ, _+_, _-_, _%_, arith, length, needs}
 use Rattle.page.specs.Page.{areaSize}
 use Rattle.page.proofs.Places.{read-part, read-parts}

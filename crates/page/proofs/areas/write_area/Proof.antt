@@ -1,5 +1,4 @@
 -- `ring::areas::write_area` meets its contract: one part of the page, or two, come back with the octets.
--- Assumes nothing.
 use Rattle.octets.specs.Prelude.{refl, ℕ, _+_, _-_, _%_, arith, length, needs}
 use Rattle.page.specs.Page.{areaSize}
 use Rattle.page.proofs.Places.{put-part, put-parts}

@@ -1,5 +1,4 @@
 -- `ring::receiving::is_whole` meets its contract: the length of the message is known.
--- Assumes nothing.
 use Rattle.octets.specs.Prelude.{refl, needs}
 use Rattle.ring.proofs.receiving.is_whole.Statement.{statement}
 use Rattle.ring.proofs.receiving.is_whole.Tie as tie

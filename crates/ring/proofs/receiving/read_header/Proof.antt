@@ -1,5 +1,4 @@
 -- `ring::receiving::read_header` meets its contract: the part that is lent holds all octets that are missing and there.
--- Assumes nothing.
 use Rattle.octets.specs.Prelude.{refl, sym, arith, needs}
 use Rattle.ring.proofs.Steps.{none-set, part-read}
 use Rattle.ring.proofs.receiving.read_header.Statement.{statement}

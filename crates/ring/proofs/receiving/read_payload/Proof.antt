@@ -1,5 +1,4 @@
 -- `ring::receiving::read_payload` meets its contract: octets behind those that the part lent holds would change nothing.
--- Assumes nothing.
 use Rattle.octets.specs.Prelude.{_≡_, refl, sym, _+_, _-_, _^_, _≤_, _<_, arith, needs, lt-ltb, le-ltb}
 use Rattle.messages.specs.Wire.{headerSize}
 use Rattle.page.specs.Page.{octetsIn}

@@ -1,5 +1,4 @@
 -- `ring::receiving::receive` meets its contract: reading in two blocks is reading octet by octet.
--- Assumes nothing.
 use Rattle.octets.specs.Prelude.{_≡_, List, ℕ, _+_, _≤_, arith, length, length-sets, needs}
 use Rattle.messages.specs.Wire.{headerSize}
 use Rattle.ring.specs.Reading.{Message, Incoming, incomingOf}

@@ -1,5 +1,4 @@
 -- `ring::sending::send` meets its contract: as many octets are written as fit.
--- Assumes nothing.
 use Rattle.octets.specs.Prelude.{_≡_, ap, _∙_, ℕ, _+_, _-_, arith, take, drop, needs}
 use Rattle.page.specs.Page.{put}
 use Rattle.ring.proofs.sending.send.Statement.{statement}

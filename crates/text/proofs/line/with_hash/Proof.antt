@@ -1,5 +1,4 @@
 -- `text::line::with_hash` meets its contract: each arm adds the line of its case.
--- Assumes nothing.
 use Rattle.octets.specs.Prelude.{arith, needs}
 use Rattle.text.proofs.Growth.{adds-then}
 use Rattle.text.proofs.line.with_hash.Statement.{statement}

@@ -1,5 +1,4 @@
 -- `text::line::with_type` meets its contract: two growths, one after the other.
--- Assumes nothing.
 use Rattle.octets.specs.Prelude.{arith, needs}
 use Rattle.text.proofs.Growth.{adds-then}
 use Rattle.text.proofs.line.with_type.Statement.{statement}

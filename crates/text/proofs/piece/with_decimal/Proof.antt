@@ -1,5 +1,4 @@
 -- `text::piece::with_decimal` meets its contract: `io::decimal` writes the fewest digits, and 20 hold any 64-bit number.
--- Assumes nothing.
 use Rattle.octets.specs.Prelude.{ap, _∙_, ℕ, _≤_, arith, needs}
 use Rattle.io.specs.Digits.{digits}
 use Rattle.text.specs.Ascii.{decimal}

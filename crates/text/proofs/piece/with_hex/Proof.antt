@@ -1,5 +1,4 @@
 -- `text::piece::with_hex` meets its contract: `io::hex` writes eight digits, which hold any 32-bit number.
--- Assumes nothing.
 use Rattle.octets.specs.Prelude.{_≡_, ap, _∙_, ℕ, arith, needs}
 use Rattle.io.specs.Digits.{digits}
 use Rattle.text.specs.Ascii.{hex8}

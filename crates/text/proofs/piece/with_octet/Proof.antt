@@ -1,5 +1,4 @@
 -- `text::piece::with_octet` meets its contract: a store at the end, and one octet more counted.
--- Assumes nothing.
 use Rattle.octets.specs.Prelude.{needs}
 use Rattle.text.proofs.Growth.{adds-octet}
 use Rattle.text.proofs.piece.with_octet.Statement.{statement}

@@ -1,5 +1,4 @@
 -- `text::piece::with_octets` meets its contract. The loop's invariant: the first i octets were added.
--- Assumes nothing.
 use Rattle.octets.specs.Prelude.{_≤_, _-_, arith, needs, length, take, length-take-le, take-all}
 use Rattle.text.specs.Text.{Adds}
 use Rattle.text.proofs.Growth.{adds-none, adds-next}

@@ -1,5 +1,4 @@
 -- `toeplitz::hashing::add_octet` meets its contract. The loop's invariant: the window at bit j of the octet, and the bits below j are added.
--- Assumes nothing.
 use Rattle.octets.specs.Prelude.{_≡_, _≤_, _+_, _*_, _-_, add-zero, add-assoc, arith, needs}
 use Rattle.toeplitz.specs.Hash.{windowAt}
 use Rattle.toeplitz.specs.Inner.{hashBelow}

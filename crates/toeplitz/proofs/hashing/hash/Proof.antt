@@ -1,5 +1,4 @@
 -- `toeplitz::hashing::hash` meets its contract: the tests on the way to each return pick the case of `hashOutcome`.
--- Assumes nothing.
 use Rattle.octets.specs.Prelude.{_≡_, ap, _<_, arith, length, needs, eq-eqb, ne-eqb, le-leb, lt-leb}
 use Rattle.octets.specs.Outcome.{value}
 use Rattle.toeplitz.specs.Hash.{keyLength, maxInput}

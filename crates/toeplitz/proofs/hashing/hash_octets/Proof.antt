@@ -1,5 +1,4 @@
 -- `toeplitz::hashing::hash_octets` meets its contract. The loop's invariant: the input bits of the octets below `at` are added.
--- Assumes nothing.
 use Rattle.octets.specs.Prelude.{_≡_, refl, _≤_, _+_, _*_, _-_, arith, needs, length}
 use Rattle.toeplitz.specs.Hash.{xorBelow, publishedHash}
 use Rattle.toeplitz.specs.Inner.{hashBelow}

@@ -1,5 +1,4 @@
 -- `toeplitz::hashing::hash_of` meets its contract: the parts lent on are the slices whole.
--- Assumes nothing.
 use Rattle.octets.specs.Prelude.{_≡_, ap₂, _∙_, List, ℕ, _-_, arith, length, take, take-all, needs}
 use Rattle.toeplitz.specs.Hash.{publishedHash}
 use Rattle.toeplitz.proofs.hashing.hash_of.Statement.{statement}
@@ -8,10 +7,7 @@ use Rattle.toeplitz.proofs.hashing.hash_of.Tie as tie
 whole : (xs : List ℕ) → take (length xs - 0) xs ≡ xs
 whole xs = take-all (length xs - 0) xs (omega arith)
 
-returns : tie.Need-returns
-returns c = c .hash-octets .ensures ∙ ap₂ publishedHash (whole _) (whole _)
-
 pub hash-of-spec : {M : Type 1} → statement M
 hash-of-spec =
     tie.close (tie.spec (λ c. search needs) (λ c. search needs) (λ c. search needs) (λ c. search needs) (λ c. search needs)
-    (λ c. search needs) (λ c κs. search needs) returns)
+    (λ c. search needs) (λ c κs. search needs) (λ c. c .hash-octets .ensures ∙ ap₂ publishedHash (whole _) (whole _)))

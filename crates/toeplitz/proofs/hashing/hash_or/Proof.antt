@@ -1,5 +1,4 @@
 -- `toeplitz::hashing::hash_or` meets its contract: the two tests pick the case of `hashOutcome`.
--- Assumes nothing.
 use Rattle.octets.specs.Prelude.{⊎-elim, needs, eq-eqb, ne-eqb}
 use Rattle.toeplitz.proofs.hashing.hash_or.Statement.{statement}
 use Rattle.toeplitz.proofs.hashing.hash_or.Tie as tie

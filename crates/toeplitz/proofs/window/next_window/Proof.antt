@@ -1,5 +1,4 @@
 -- `toeplitz::window::next_window` meets its contract: the law of a window with the octet of the next key bit drawn in.
--- Assumes nothing.
 use Rattle.octets.specs.Prelude.{_≡_, ap₂, _∙_, needs, ℕ, _+_, _-_, _*_, _/_, _%_, _^_, getD}
 use lib.Bits.{bitOr}
 use Rattle.toeplitz.proofs.Windows.{window-drawn}

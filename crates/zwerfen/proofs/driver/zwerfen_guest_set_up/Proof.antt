@@ -1,6 +1,5 @@
 -- `zwerfen::zwerfen_guest_set_up` meets its contract: the guest is lent in parts to `frontend::set_up` (`Exports.antt` of the
 -- crate `lending`). All that the proof knows of that function is that it meets its contract.
--- Assumes nothing.
 use Rattle.octets.specs.Prelude.{refl}
 use mir.Syntax.{tyUnit}
 use contract.Running.{givenOf}

@@ -1,6 +1,5 @@
 -- `zwerfen::zwerfen_guest_start_set_key` meets its contract: the guest is lent in parts to `guest_calls::start_set_key` (`Exports.antt` of the
 -- crate `lending`). All that the proof knows of that function is that it meets its contract.
--- Assumes nothing.
 use Rattle.octets.specs.Prelude.{refl}
 use mir.Syntax.{named, tyInt, w32}
 use contract.Running.{givenOf}

@@ -1,6 +1,5 @@
 -- `zwerfen::zwerfen_event` meets its contract: the interface is lent in parts to `backend::event` (`Exports.antt` of the
 -- crate `lending`). All that the proof knows of that function is that it meets its contract.
--- Assumes nothing.
 use Rattle.octets.specs.Prelude.{refl}
 use mir.Syntax.{named, tyInt, w32}
 use contract.Running.{givenOf}

@@ -1,6 +1,5 @@
 -- `zwerfen::zwerfen_set_up` meets its contract: the interface is lent in parts to `interface::set_up` (`Exports.antt` of the
 -- crate `lending`). All that the proof knows of that function is that it meets its contract.
--- Assumes nothing.
 use Rattle.octets.specs.Prelude.{refl}
 use mir.Syntax.{tyInt, w32}
 use contract.Running.{givenOf}

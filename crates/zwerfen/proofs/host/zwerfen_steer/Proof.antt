@@ -1,6 +1,5 @@
 -- `zwerfen::zwerfen_steer` meets its contract: three parts of the interface are lent to `by_number::steer`, with the packet and
 -- the three places (`Exports.antt` of the crate `lending`). All that the proof knows of that function is that it meets its contract.
--- Assumes nothing.
 use Rattle.octets.specs.Prelude.{refl}
 use mir.Syntax.{named, tyInt, w32}
 use contract.Running.{givenOf}
