@@ -31,7 +31,8 @@ pub fn write_set_flags(buffer: &mut [u8], flags: u64, length: &mut usize) -> u32
 
 // Sets the key, octet for octet.
 pub fn write_set_key(buffer: &mut [u8], key: &[u8], length: &mut usize) -> u32
-    ensures { λ r. ⌜ Writes (setKeyMessage (now (key .entry))) (now (buffer .entry)) (now (length .entry)) r (now (buffer .exit)) (now (length .exit)) ⌝ }
+    ensures { λ r. ⌜ Writes (setKeyMessage (now (key .entry))) (now (buffer .entry)) (now (length .entry)) r (now (buffer .exit))
+        (now (length .exit)) ⌝ }
 {
     let answer = guest_messages::write_set_key(buffer, key);
     tell(answer, length)
@@ -39,7 +40,8 @@ pub fn write_set_key(buffer: &mut [u8], key: &[u8], length: &mut usize) -> u32
 
 // Sets the mapping: the queue of each entry.
 pub fn write_set_mapping(buffer: &mut [u8], entries: &[u64], length: &mut usize) -> u32
-    ensures { λ r. ⌜ Writes (setMappingMessage (now (entries .entry))) (now (buffer .entry)) (now (length .entry)) r (now (buffer .exit)) (now (length .exit)) ⌝ }
+    ensures { λ r. ⌜ Writes (setMappingMessage (now (entries .entry))) (now (buffer .entry)) (now (length .entry)) r (now (buffer .exit))
+        (now (length .exit)) ⌝ }
 {
     let answer = guest_messages::write_set_mapping(buffer, entries);
     tell(answer, length)

@@ -8,7 +8,8 @@ use Rattle.octets.proofs.Outcomes.{value-same, test-value}
 use Rattle.octets.proofs.Copies.{sets-all}
 use Rattle.octets.proofs.Numbers.{length-octets}
 use Rattle.toeplitz.specs.Hash.{keyLength}
-use Rattle.messages.specs.Wire.{headerSize, fieldSize, message, sizeIn, ackType, getFlagsType, setFlagsType, setKeyType, setMappingType, allFlags, success}
+use Rattle.messages.specs.Wire.{headerSize, fieldSize, message, sizeIn, ackType, getFlagsType, setFlagsType, setKeyType, setMappingType}
+use Rattle.messages.specs.Wire.{allFlags, success}
 use Rattle.messages.specs.Settings.{isListed, Settings}
 use Rattle.messages.specs.Requests.{Request, requestOf, statusOf, carriesFlags, ackPayload, ackIn, carriedOut}
 use Rattle.messages.proofs.Parts.{message-is, length-message, size-header}

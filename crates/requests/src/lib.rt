@@ -157,7 +157,8 @@ fn set_mapping(
     payload: &[u8],
 ) -> u8
     requires { ⌜ length (now payload) ≡ maxPayload ⌝ }
-    ensures { λ r. ⌜ SetsMapping queues size (now (payload .entry)) (now (entries .entry)) (now (count .entry)) r (now (entries .exit)) (now (count .exit)) ⌝ }
+    ensures { λ r. ⌜ SetsMapping queues size (now (payload .entry)) (now (entries .entry)) (now (count .entry)) r (now (entries .exit))
+        (now (count .exit)) ⌝ }
 {
     if size % FIELD_SIZE != 0 {
         return INVALID_PARAMETER;

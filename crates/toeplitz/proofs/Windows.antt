@@ -102,4 +102,5 @@ pub sum-next : (key input : List ℕ) (i s w s′ : ℕ) (b : Bool) → s ≡ ha
 unfolding xorBelow termAt
 sum-next key input i s w s′ b r f e g =
     let bit = bitAt input i in
-    rw add-one (g ∙ ap (λ (t : Bool). cond t (bitXor s w) s) f ∙ when-set s bit w (bitAt-lt input i) ∙ ap₂ (λ (x y : ℕ). bitXor x (whenSet bit y)) r e)
+    rw add-one (g ∙ ap (λ (t : Bool). cond t (bitXor s w) s) f ∙ when-set s bit w (bitAt-lt input i)
+    ∙ ap₂ (λ (x y : ℕ). bitXor x (whenSet bit y)) r e)

@@ -5,4 +5,6 @@ use Rattle.ack_reader.proofs.carries_flags.Statement.{statement}
 use Rattle.ack_reader.proofs.carries_flags.Tie as tie
 
 pub carries-flags-spec : {M : Type 1} → statement M
-carries-flags-spec = tie.close (tie.spec (λ c. sym (other-carries-none _ _ (c .if1 .taken))) (λ c. search needs) (λ c. sym (get-flags-carries _ _ (c .if1 .left))))
+carries-flags-spec =
+    tie.close (tie.spec (λ c. sym (other-carries-none _ _ (c .if1 .taken))) (λ c. search needs)
+    (λ c. sym (get-flags-carries _ _ (c .if1 .left))))

@@ -78,7 +78,7 @@ returns-9 c =
 
 pub read-ack-spec : {M : Type 1} → statement M
 read-ack-spec =
-    tie.close (tie.spec (λ c. search needs) (λ c. refuse-short _ _ (c .if1 .taken)) (λ c κs. search needs) returns-2 (λ c κs. search needs) (λ c. search needs)
-    (λ c. search needs) returns-3 (λ c κs. search needs) (λ c κs. search needs) (λ c. search needs) returns-4 (λ c. search needs)
-    (λ c κs. search needs) (λ c. search needs) returns-5 (λ c. search needs) returns-6 returns-7 (λ c κs. search needs) returns-8 cast-t16
-    returns-9)
+    tie.close (tie.spec (λ c. search needs) (λ c. refuse-short _ _ (c .if1 .taken)) (λ c κs. search needs) returns-2 (λ c κs. search needs)
+    (λ c. search needs) (λ c. search needs) returns-3 (λ c κs. search needs) (λ c κs. search needs) (λ c. search needs) returns-4
+    (λ c. search needs) (λ c κs. search needs) (λ c. search needs) returns-5 (λ c. search needs) returns-6 returns-7 (λ c κs. search needs)
+    returns-8 cast-t16 returns-9)

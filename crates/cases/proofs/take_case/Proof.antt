@@ -15,5 +15,5 @@ module _ (d : tie.After-case) where
 
 pub take-case-spec : {M : Type 1} → statement M
 take-case-spec =
-    tie.close (tie.spec (λ c κs. search needs) (λ c. search needs) (λ c. search needs) (λ c. search needs) (λ c κs. search needs) (λ c. omega (arith, body (c .before .before)))
-    (λ c. search needs))
+    tie.close (tie.spec (λ c κs. search needs) (λ c. search needs) (λ c. search needs) (λ c. search needs) (λ c κs. search needs)
+    (λ c. omega (arith, body (c .before .before))) (λ c. search needs))

@@ -65,6 +65,6 @@ returns-5 c =
 
 pub two-way-spec : {M : Type 1} → statement M
 two-way-spec =
-    tie.close (tie.spec (λ c. simp (ne-eqb _ _ (c .if1 .taken))) (λ c. simp (eq-eqb _ _ (c .before .if1 .left), lt-leb _ _ (c .if2 .taken))) (λ c κs. search needs) (λ c κs. search needs) (λ c κs. search needs) (λ c. search needs) returns-3
-    (λ c. search needs) (λ c. search needs) (λ c κs. search needs) (λ c. search needs) (λ c. search needs) add-t12 returns-4
-    (λ c. search needs) returns-5)
+    tie.close (tie.spec (λ c. simp (ne-eqb _ _ (c .if1 .taken))) (λ c. simp (eq-eqb _ _ (c .before .if1 .left), lt-leb _ _ (c .if2 .taken)))
+    (λ c κs. search needs) (λ c κs. search needs) (λ c κs. search needs) (λ c. search needs) returns-3 (λ c. search needs)
+    (λ c. search needs) (λ c κs. search needs) (λ c. search needs) (λ c. search needs) add-t12 returns-4 (λ c. search needs) returns-5)

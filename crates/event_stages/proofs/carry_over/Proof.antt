@@ -49,4 +49,7 @@ pub carry-over-spec : {M : Type 1} → statement M
 carry-over-spec =
     tie.close (tie.spec (λ c κs. search needs) (λ c κs. search needs) (λ c. search needs) (λ c. search needs) (λ c. search needs)
     (λ c. search needs) (λ c. search needs) cast-carry-out-3 (λ c κs. search needs) (λ c. search needs) (λ c. search needs)
-    (λ c. search needs) (λ c. simp length-set (omega (arith, size-known (c .before .before)))) (λ c. simp length-set (omega (arith, size-known (c .before .before)))) (λ c. simp length-set (omega (arith, size-known (c .before .before)))) (λ c. simp length-set (omega (arith, size-known (c .before .before)))) returns)
+    (λ c. search needs) (λ c. simp length-set (omega (arith, size-known (c .before .before))))
+    (λ c. simp length-set (omega (arith, size-known (c .before .before))))
+    (λ c. simp length-set (omega (arith, size-known (c .before .before))))
+    (λ c. simp length-set (omega (arith, size-known (c .before .before)))) returns)

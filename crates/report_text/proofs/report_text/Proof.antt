@@ -8,7 +8,9 @@ use Rattle.report_text.proofs.report_text.Statement.{statement}
 use Rattle.report_text.proofs.report_text.Tie as tie
 
 returns : tie.Need-returns
-returns c = subst (λ (x : Outcome Counted). Prints (c .report-lines .result) (reportLines x)) (c .before .report-on .ensures .0) (c .report-lines .ensures)
+returns c =
+    subst (λ (x : Outcome Counted). Prints (c .report-lines .result) (reportLines x)) (c .before .report-on .ensures .0)
+    (c .report-lines .ensures)
 
 pub report-text-spec : {M : Type 1} → statement M
 report-text-spec = tie.close (tie.spec (λ c κs. search needs) (λ c κs. search needs) returns)

@@ -29,5 +29,7 @@ returns-2 c = steered-part _ _ _ _ _ (found (c .before .before .before)) _ _ _ _
 
 pub steer-spec : {M : Type 1} → statement M
 steer-spec =
-    tie.close (tie.spec (λ c κs. search needs) (λ c. search needs) (λ c κs. search needs) (λ c. search needs) (λ c. let f = found (c .before) in omega arith)
-    (λ c. let f = found (c .before) in omega arith) (λ c. let f = found (c .before) in omega arith) (λ c. let f = found (c .before .before) in omega arith) steer-ip-requires returns returns-2)
+    tie.close (tie.spec (λ c κs. search needs) (λ c. search needs) (λ c κs. search needs) (λ c. search needs)
+    (λ c. let f = found (c .before) in omega arith) (λ c. let f = found (c .before) in omega arith)
+    (λ c. let f = found (c .before) in omega arith) (λ c. let f = found (c .before .before) in omega arith) steer-ip-requires returns
+    returns-2)

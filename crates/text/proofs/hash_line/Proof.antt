@@ -5,4 +5,5 @@ use Rattle.text.proofs.hash_line.Statement.{statement}
 use Rattle.text.proofs.hash_line.Tie as tie
 
 pub hash-line-spec : {M : Type 1} → statement M
-hash-line-spec = tie.close (tie.spec (λ c κs. search needs) (λ c κs. search needs) (λ c. prints (c .before .empty .ensures) (c .with-hash .ensures .0)))
+hash-line-spec =
+    tie.close (tie.spec (λ c κs. search needs) (λ c κs. search needs) (λ c. prints (c .before .empty .ensures) (c .with-hash .ensures .0)))

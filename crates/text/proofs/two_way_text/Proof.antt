@@ -36,4 +36,5 @@ pub two-way-text-spec : {M : Type 1} → statement M
 two-way-text-spec =
     tie.close (tie.spec (λ c κs. search needs) (λ c κs. search needs) returns (λ c κs. search needs) (λ c. search needs)
     (λ c κs. search needs) (λ c κs. search needs) (λ c. search needs) (λ c κs. search needs) (λ c κs. search needs) (λ c. search needs)
-    (λ c κs. search needs) (λ c κs. search needs) (λ c. search needs) (λ c κs. search needs) (λ c κs. search needs) (λ c. simp (eq-eqb _ _ (start-of c .before .if1 .left)) (four-lines c)))
+    (λ c κs. search needs) (λ c κs. search needs) (λ c. search needs) (λ c κs. search needs) (λ c κs. search needs)
+    (λ c. simp (eq-eqb _ _ (start-of c .before .if1 .left)) (four-lines c)))

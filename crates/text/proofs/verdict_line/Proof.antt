@@ -5,4 +5,6 @@ use Rattle.text.proofs.verdict_line.Statement.{statement}
 use Rattle.text.proofs.verdict_line.Tie as tie
 
 pub verdict-line-spec : {M : Type 1} → statement M
-verdict-line-spec = tie.close (tie.spec (λ c κs. search needs) (λ c κs. search needs) (λ c. prints (c .before .empty .ensures) (c .with-verdict .ensures .0)))
+verdict-line-spec =
+    tie.close (tie.spec (λ c κs. search needs) (λ c κs. search needs)
+    (λ c. prints (c .before .empty .ensures) (c .with-verdict .ensures .0)))

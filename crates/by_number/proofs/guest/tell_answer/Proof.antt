@@ -9,4 +9,6 @@ returns-5 c = rw (c .before .before .answer3 .given .1) (c .refusal-number .ensu
 pub tell-answer-spec : {M : Type 1} → statement M
 tell-answer-spec =
     tie.close (tie.spec (λ c. search needs) (λ c. search needs) (λ c. search needs) (λ c. search needs) (λ c. search needs)
-    (λ c. search needs) (λ c. search needs) (λ c. search needs) (λ c κs. search needs) (λ c. rw (c .enum-told .given .1) (refl, (refl, refl))) (λ c. rw (c .enum-told2 .given .1) (refl, (refl, refl))) (λ c. rw (c .before .answer .given .1) (refl, (refl, refl))) (λ c. rw (c .before .answer2 .given .1) (refl, (refl, refl))) returns-5)
+    (λ c. search needs) (λ c. search needs) (λ c. search needs) (λ c κs. search needs)
+    (λ c. rw (c .enum-told .given .1) (refl, (refl, refl))) (λ c. rw (c .enum-told2 .given .1) (refl, (refl, refl)))
+    (λ c. rw (c .before .answer .given .1) (refl, (refl, refl))) (λ c. rw (c .before .answer2 .given .1) (refl, (refl, refl))) returns-5)

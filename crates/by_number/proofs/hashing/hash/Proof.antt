@@ -23,4 +23,7 @@ module _ (d : tie.After-hash) (a : HashAnswer) (e : d .hash .result ≡ a) where
       (ap numberOf same, ap (λ (o : Outcome ℕ). placed itself o before) same)
 
 pub hash-spec : {M : Type 1} → statement M
-hash-spec = tie.close (tie.spec (λ c κs. search needs) (λ c. search needs) (λ c. search needs) (λ c. search needs) (λ c. told (c .before .before .before) _ (c .before .answer .given .1)) (λ c. told (c .before .before) _ (c .enum-told .given .1)) (λ c. told (c .before .before) _ (c .enum-told2 .given .1)))
+hash-spec =
+    tie.close (tie.spec (λ c κs. search needs) (λ c. search needs) (λ c. search needs) (λ c. search needs)
+    (λ c. told (c .before .before .before) _ (c .before .answer .given .1)) (λ c. told (c .before .before) _ (c .enum-told .given .1))
+    (λ c. told (c .before .before) _ (c .enum-told2 .given .1)))

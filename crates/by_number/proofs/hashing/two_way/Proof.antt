@@ -29,5 +29,6 @@ module _ (d : tie.After-two-way) (a : TwoWayAnswer) (e : d .two-way .result ≡ 
 
 pub two-way-spec : {M : Type 1} → statement M
 two-way-spec =
-    tie.close (tie.spec (λ c κs. search needs) (λ c. search needs) (λ c. search needs) (λ c. search needs) (λ c. search needs) (λ c. told (c .before .before) _ (c .enum-told .given .1))
-    (λ c. told (c .before .before .before) _ (c .before .answer .given .1)) (λ c. told (c .before .before) _ (c .enum-told2 .given .1)) (λ c. told (c .before .before) _ (c .enum-told3 .given .1)))
+    tie.close (tie.spec (λ c κs. search needs) (λ c. search needs) (λ c. search needs) (λ c. search needs) (λ c. search needs)
+    (λ c. told (c .before .before) _ (c .enum-told .given .1)) (λ c. told (c .before .before .before) _ (c .before .answer .given .1))
+    (λ c. told (c .before .before) _ (c .enum-told2 .given .1)) (λ c. told (c .before .before) _ (c .enum-told3 .given .1)))

@@ -34,4 +34,5 @@ pub steer-spec : {M : Type 1} → statement M
 steer-spec =
     tie.close (tie.spec (λ c. search needs) (λ c. search needs) (λ c. search needs) cast-steer-2
     (λ c κs. c .before .before .before .pre .mapping .listed) (λ c. search needs) (λ c. search needs) (λ c. search needs)
-    (λ c. search needs) (λ c. search needs) (λ c. told (c .before .before .before) _ (c .before .answer .given .1)) (λ c. told (c .before .before .before) _ (c .before .answer2 .given .1)))
+    (λ c. search needs) (λ c. search needs) (λ c. told (c .before .before .before) _ (c .before .answer .given .1))
+    (λ c. told (c .before .before .before) _ (c .before .answer2 .given .1)))

@@ -30,4 +30,5 @@ module _ (d : tie.After-read-ack) (a : AckAnswer) (e : d .read-ack .result ≡ a
 pub read-ack-spec : {M : Type 1} → statement M
 read-ack-spec =
     tie.close (tie.spec (λ c κs. search needs) (λ c. search needs) (λ c. search needs) (λ c. search needs) (λ c. search needs)
-    (λ c. search needs) (λ c. search needs) (λ c. told (c .before .before .before) _ (c .before .answer .given .1)) (λ c. told (c .before .before .before) _ (c .before .answer2 .given .1)) (λ c. told (c .before .before) _ (c .enum-told .given .1)))
+    (λ c. search needs) (λ c. search needs) (λ c. told (c .before .before .before) _ (c .before .answer .given .1))
+    (λ c. told (c .before .before .before) _ (c .before .answer2 .given .1)) (λ c. told (c .before .before) _ (c .enum-told .given .1)))

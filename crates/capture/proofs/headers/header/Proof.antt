@@ -18,5 +18,5 @@ returns-3 c =
 
 pub header-spec : {M : Type 1} → statement M
 header-spec =
-    tie.close (tie.spec (λ c. header-short _ (c .if1 .taken)) (λ c κs. search needs) (λ c κs. search needs) returns-2 (λ c κs. search needs) (λ c κs. search needs)
-    returns-3)
+    tie.close (tie.spec (λ c. header-short _ (c .if1 .taken)) (λ c κs. search needs) (λ c κs. search needs) returns-2 (λ c κs. search needs)
+    (λ c κs. search needs) returns-3)

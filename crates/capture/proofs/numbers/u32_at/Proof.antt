@@ -10,5 +10,5 @@ returns-2 c = rw (c .before .before .before .before .before .enum-told2 .given .
 pub u32-at-spec : {M : Type 1} → statement M
 u32-at-spec =
     tie.close (tie.spec (λ c. search needs) (λ c κs. search needs) (λ c. search needs) (λ c. search needs) (λ c. search needs)
-    (λ c. search needs) (λ c. search needs) (λ c. search needs) (λ c. search needs) (λ c. search needs) (λ c κs. search needs) (λ c. rw (c .before .enum-told .given .1) (c .read-u32 .ensures))
-    returns-2)
+    (λ c. search needs) (λ c. search needs) (λ c. search needs) (λ c. search needs) (λ c. search needs) (λ c κs. search needs)
+    (λ c. rw (c .before .enum-told .given .1) (c .read-u32 .ensures)) returns-2)

@@ -16,7 +16,8 @@ returns c =
     let d = c .before .before in
     let frame = d .before .before .before .before .args .captured .now in
     let holds = sym (d .holds-ip .ensures) ∙ c .before .if1 .taken in
-    rw (d .before .enum-told .given .1) (take-all (length frame - 14) (drop 14 frame) (rw (length-drop 14 frame) (omega arith)) ∙ frame-part frame holds)
+    rw (d .before .enum-told .given .1) (take-all (length frame - 14) (drop 14 frame) (rw (length-drop 14 frame) (omega arith))
+    ∙ frame-part frame holds)
 
 returns-2 : tie.Need-returns-2
 returns-2 c =

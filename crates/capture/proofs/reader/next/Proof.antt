@@ -16,7 +16,8 @@ use contract.Monad.{Fun}
 use contract.Running.{givenOf, tables, tablesOf}
 use types.Kit.{Given, ‵, raw, _⊛_, given, ⋆, _$_, _∵_, !, qed, by, move, drop, use1, use2, split, learn, fsplit, fjoin, suffices, frame, done}
 use types.Part.{whole, sub, look-in}
-use types.Run.{look, init, forget, stop, fld, from, load, of-opd, and-then, no-more, assigns, land, returns, enter, alloc1, alloc0, params1, pass1, pass0, free1, free0}
+use types.Run.{look, init, forget, stop, fld, from, load, of-opd, and-then, no-more, assigns, land, returns, enter, alloc1, alloc0, params1}
+use types.Run.{pass1, pass0, free1, free0}
 use sound.WpLaws.{FmC, fmOf}
 use denote.RattleType.{owns}
 use denote.Enum.Laws as EL
@@ -35,7 +36,8 @@ use denote.Triple.Walked.{says, Stays, walkOf, ends-at}
 use Rattle.capture.specs.Records.{stepAt, stepOutcomeOf}
 use Rattle.capture.specs.declared.reader.Reader.{Reader}
 use Rattle.capture.specs.declared.Step.{Step}
-use Rattle.capture.proofs.Readers.{D, L, B, reader-stay, reader-goes, reader-copy, reader-typed, number, copied, asked, Told, calls-told, concluded}
+use Rattle.capture.proofs.Readers.{D, L, B, reader-stay, reader-goes, reader-copy, reader-typed, number, copied, asked, Told}
+use Rattle.capture.proofs.Readers.{calls-told, concluded}
 use Rattle.capture.proofs.Step as S
 use Rattle.capture.proofs.Step.Laws as S′
 use Rattle.capture.proofs.reader.Reader.Laws as T′
@@ -116,7 +118,8 @@ module _ {M : Type 1} (𝓤 : URA M) (H : Heap 𝓤) (A : Atoms 𝓤) (mem : Mem
             assigns ! (of-opd ! (load ! (from ! (fld ! refl (stop !))) (look-in ! 4 (sub ! 1 refl (whole !))))) (from ! (stop !))
             (init ! 0 refl (tt, typed .1 .1 .0)) $
             move ! (8 ∷ []) $ use1 W (raw (StepAt .pre to) ⊛ ‵ Own) (apart (typed .1 .1 .0 .fits)) $ split ! $
-            calls-told ! fm step.ended (step.clauses 𝓤 H A mem run) known to (λ r. stepOutcomeOf r ≡ stepAt (now (d .capture)) (d .at)) (λ r e. id⊢ 𝓤 _)
+            calls-told ! fm step.ended (step.clauses 𝓤 H A mem run) known to (λ r. stepOutcomeOf r ≡ stepAt (now (d .capture)) (d .at))
+            (λ r e. id⊢ 𝓤 _)
             (and-then ! (load ! (from ! (stop !)) (look ! 4 refl)) (and-then ! (load ! (from ! (stop !)) (look ! 2 refl)) (no-more !))) (λ u r e is.
             -- [the result; the token; what the struct owns; _3; …; _2; …; _1; …; room for _0; …]
             land ! (from ! (stop !)) (init ! 9 refl (EL.lawful S.the-type S′.the-laws 𝓤 H A W tt .typed r _ is .0)) $

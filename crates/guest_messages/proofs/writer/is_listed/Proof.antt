@@ -5,4 +5,6 @@ use Rattle.guest_messages.proofs.writer.is_listed.Statement.{statement}
 use Rattle.guest_messages.proofs.writer.is_listed.Tie as tie
 
 pub is-listed-spec : {M : Type 1} → statement M
-is-listed-spec = tie.close (tie.spec (λ c. listed-few _ (c .if1 .taken)) (λ c. search needs) (λ c κs. search needs) (λ c. c .is-power-of-two .ensures ∙ listed-power _ (c .before .if1 .left)))
+is-listed-spec =
+    tie.close (tie.spec (λ c. listed-few _ (c .if1 .taken)) (λ c. search needs) (λ c κs. search needs)
+    (λ c. c .is-power-of-two .ensures ∙ listed-power _ (c .before .if1 .left)))

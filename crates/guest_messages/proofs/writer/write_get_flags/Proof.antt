@@ -10,4 +10,6 @@ returns-2 c =
     header-written _ _ _ (headed .write-header .ensures) (headed .before .before .if1 .left)
 
 pub write-get-flags-spec : {M : Type 1} → statement M
-write-get-flags-spec = tie.close (tie.spec (λ c. message-short _ _ _ _ refl (omega (arith, c .if1 .taken))) (λ c κs. search needs) (λ c. search needs) returns-2)
+write-get-flags-spec =
+    tie.close (tie.spec (λ c. message-short _ _ _ _ refl (omega (arith, c .if1 .taken))) (λ c κs. search needs) (λ c. search needs)
+    returns-2)

@@ -54,7 +54,8 @@ module _ (d : tie.After-read-ack) (a : AckAnswer) (e : d .read-ack .result ≡ a
   from = start (first copied)
 
   -- it was handed the header with the octets of the payload
-  judges : judged (ackOutcomeOf a) ≡ judged (readAck (from .args .kind) (from .args .header .now ++ take (from .args .size) (from .args .payload .now)))
+  judges : judged (ackOutcomeOf a)
+      ≡ judged (readAck (from .args .kind) (from .args .header .now ++ take (from .args .size) (from .args .payload .now)))
   judges =
       let h = first copied in
       let n = from .args .size in
@@ -66,4 +67,6 @@ pub judge-spec : {M : Type 1} → statement M
 judge-spec =
     tie.close (tie.spec (λ c. search needs) (λ c. search needs) (λ c. search needs) (λ c κs. search needs) (λ c. search needs)
     (λ c. search needs) part-message-end-2 (λ c κs. search needs) (λ c. search needs) (λ c. search needs) (λ c. search needs)
-    part-read-ack-end (λ c κs. search needs) (λ c. search needs) (λ c. search needs) (λ c. search needs) (λ c. judges (c .before .before .before) _ (c .before .answer .given .1)) (λ c. judges (c .before .before .before) _ (c .before .answer2 .given .1)) (λ c. judges (c .before .before) _ (c .enum-told .given .1)))
+    part-read-ack-end (λ c κs. search needs) (λ c. search needs) (λ c. search needs) (λ c. search needs)
+    (λ c. judges (c .before .before .before) _ (c .before .answer .given .1))
+    (λ c. judges (c .before .before .before) _ (c .before .answer2 .given .1)) (λ c. judges (c .before .before) _ (c .enum-told .given .1)))

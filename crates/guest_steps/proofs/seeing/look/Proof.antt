@@ -45,5 +45,5 @@ returns-4 c =
 
 pub look-spec : {M : Type 1} → statement M
 look-spec =
-    tie.close (tie.spec (λ c. sees-no-header _ _ (c .if1 .taken)) (λ c κs. search needs) returns-2 (λ c κs. search needs) returns-3 (λ c. search needs) judge-requires
-    returns-4)
+    tie.close (tie.spec (λ c. sees-no-header _ _ (c .if1 .taken)) (λ c κs. search needs) returns-2 (λ c κs. search needs) returns-3
+    (λ c. search needs) judge-requires returns-4)

@@ -14,4 +14,6 @@ returns c =
 pub with-hash-spec : {M : Type 1} → statement M
 with-hash-spec =
     tie.close (tie.spec (λ c. search needs) (λ c κs. search needs) (λ c. search needs) (λ c κs. search needs) (λ c. search needs)
-    (λ c κs. search needs) (λ c. search needs) (λ c κs. search needs) returns (λ c. rw (c .before .enum-told .given .1) (c .with-refusal .ensures)) (λ c. rw (c .before .enum-told2 .given .1) (c .with-refusal2 .ensures)))
+    (λ c κs. search needs) (λ c. search needs) (λ c κs. search needs) returns
+    (λ c. rw (c .before .enum-told .given .1) (c .with-refusal .ensures))
+    (λ c. rw (c .before .enum-told2 .given .1) (c .with-refusal2 .ensures)))

@@ -14,5 +14,6 @@ returns-2 c = rw (c .before .before .before .answer .given .1) (c .with-number .
 pub with-verdict-spec : {M : Type 1} → statement M
 with-verdict-spec =
     tie.close (tie.spec (λ c. search needs) (λ c. search needs) (λ c κs. search needs) (λ c. search needs) (λ c. search needs)
-    (λ c κs. search needs) (λ c. search needs) (λ c κs. search needs) (λ c. search needs) (λ c κs. search needs) returns returns-2 (λ c. rw (c .before .enum-told2 .given .1) (c .with-refusal .ensures))
+    (λ c κs. search needs) (λ c. search needs) (λ c κs. search needs) (λ c. search needs) (λ c κs. search needs) returns returns-2
+    (λ c. rw (c .before .enum-told2 .given .1) (c .with-refusal .ensures))
     (λ c. rw (c .before .enum-told3 .given .1) (c .with-refusal2 .ensures)))

@@ -23,4 +23,6 @@ returns c =
     adds-first 20 (made .result) _ text (made .ensures .0 .1) (few d) (c .with-octets .ensures)
 
 pub with-decimal-spec : {M : Type 1} → statement M
-with-decimal-spec = tie.close (tie.spec (λ c κs. search needs) (λ c. search needs) (λ c. search needs) (λ c κs. omega (arith, few (c .before), c .before .decimal .ensures .0 .1)) returns)
+with-decimal-spec =
+    tie.close (tie.spec (λ c κs. search needs) (λ c. search needs) (λ c. search needs)
+    (λ c κs. omega (arith, few (c .before), c .before .decimal .ensures .0 .1)) returns)

@@ -28,4 +28,6 @@ returns c =
     adds-first 8 (made .result) _ text (made .ensures .0 .1) (omega (arith, eight d)) (c .with-octets .ensures)
 
 pub with-hex-spec : {M : Type 1} → statement M
-with-hex-spec = tie.close (tie.spec (λ c κs. search needs) (λ c. search needs) (λ c. search needs) (λ c κs. omega (arith, eight (c .before), c .before .hex .ensures .0 .1)) returns)
+with-hex-spec =
+    tie.close (tie.spec (λ c κs. search needs) (λ c. search needs) (λ c. search needs)
+    (λ c κs. omega (arith, eight (c .before), c .before .hex .ensures .0 .1)) returns)

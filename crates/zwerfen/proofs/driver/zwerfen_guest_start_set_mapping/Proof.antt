@@ -1,5 +1,6 @@
--- `zwerfen::zwerfen_guest_start_set_mapping` meets its contract: the guest is lent in parts to `guest_calls::start_set_mapping` (`Exports.antt` of the
--- crate `lending`). All that the proof knows of that function is that it meets its contract.
+-- `zwerfen::zwerfen_guest_start_set_mapping` meets its contract: the guest is lent in parts to
+-- `guest_calls::start_set_mapping` (`Exports.antt` of the crate `lending`). All that the proof knows of that function
+-- is that it meets its contract.
 use Rattle.octets.specs.Prelude.{refl}
 use mir.Syntax.{named, tyInt, w32}
 use contract.Running.{givenOf}
