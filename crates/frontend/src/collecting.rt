@@ -31,11 +31,11 @@ use messages::HEADER;
 use page::RESPONSES;
 
 // One event of the guest whose parts are lent, on its page.
-pub fn event<'a>(
-    numbers: &'a mut [u64; NUMBERS],
-    request: &'a [u8; MAX_REQUEST],
-    header: &'a mut [u8; HEADER],
-    payload: &'a mut [u8; MAX_ACK_PAYLOAD],
+pub fn event(
+    numbers: &mut [u64; NUMBERS],
+    request: &[u8; MAX_REQUEST],
+    header: &mut [u8; HEADER],
+    payload: &mut [u8; MAX_ACK_PAYLOAD],
     page: &mut [u8],
 ) -> GuestAnswer
     requires { ⌜ Good (guestIn (now numbers) (now request) (now header) (now payload)) ⌝ }

@@ -21,11 +21,11 @@ use toeplitz::KEY_LENGTH_WRONG;
 
 // Starts a request of the guest whose parts are lent, on its page, and answers by number: 2 while octets of it are owed, 0 once
 // all are written, or a refusal. Key and entries are looked at only where they are asked for.
-pub fn start<'a>(
-    numbers: &'a mut [u64; NUMBERS],
-    request: &'a mut [u8; MAX_REQUEST],
-    header: &'a [u8; HEADER],
-    payload: &'a [u8; MAX_ACK_PAYLOAD],
+pub fn start(
+    numbers: &mut [u64; NUMBERS],
+    request: &mut [u8; MAX_REQUEST],
+    header: &[u8; HEADER],
+    payload: &[u8; MAX_ACK_PAYLOAD],
     page: &mut [u8],
     ask: Ask,
     key: &[u8],
