@@ -16,7 +16,7 @@ pub fn hash(key: &[u8], input: &[u8], hash: &mut u32) -> u32
     ensures { λ r. ⌜ r ≡ numberOf (hashOutcome (now (key .entry)) (now (input .entry))) ⌝ }
     ensures { λ _. ⌜ now (hash .exit) ≡ placed itself (hashOutcome (now (key .entry)) (now (input .entry))) (now (hash .entry)) ⌝ }
 {
-    let answer = toeplitz::hash(key, input);
+    let answer = hashing::hash(key, input);
     match answer {
         HashAnswer::Hash(h) => {
             *hash = h;

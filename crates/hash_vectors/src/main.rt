@@ -58,7 +58,7 @@ fn split(kind: u8, body: &[u8]) {
 
 fn answer(kind: u8, first: &[u8], second: &[u8]) {
     if kind == HASH {
-        text::print(text::hash_line(toeplitz::hash(first, second)));
+        text::print(text::hash_line(hashing::hash(first, second)));
     } else if kind == TWO_WAY {
         text::print(text::verdict_line(directions::two_way(first, hash_type(second))));
     } else if kind == HASH_PROGRAM {

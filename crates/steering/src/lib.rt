@@ -88,7 +88,7 @@ fn hashed(hash_type: u8, key: &[u8], table: &[u8], input: &[u8]) -> Steered
     ensures { λ r. ⌜ choiceOf r ≡ hashedTo «hash_type» (publishedHash (now (key .entry)) (now (input .entry))) (now (table .entry)) ⌝ }
 {
     // The hash call refuses neither: the key is 40 octets and no input is above 36.
-    at_hash(hash_type, toeplitz::hash_or(key, input, 0), table)
+    at_hash(hash_type, hashing::hash_or(key, input, 0), table)
 }
 
 // The answer for a type with this hash.

@@ -36,7 +36,7 @@ pub fn hash_text(octets: &[u8]) -> Text
     ensures { λ r. ⌜ Prints r (hashText (now (octets .entry))) ⌝ }
 {
     let split = key_end(octets.len());
-    hash_line(toeplitz::hash(&octets[..split], &octets[split..]))
+    hash_line(hashing::hash(&octets[..split], &octets[split..]))
 }
 
 // What the two-way program prints for the key that it read: a line for each hash type.

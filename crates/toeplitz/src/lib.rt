@@ -1,10 +1,8 @@
-// The Toeplitz hash of a 40-octet key and an input of at most 36 octets, the window that it slides over the key, and what the
-// two-way question answers. Knows nothing of rings or packets.
-mod hashing;
+// The Toeplitz hash of a 40-octet key and an input of at most 36 octets: its definitions, the window that slides over the key, and
+// what the hash call and the two-way question answer. Knows nothing of rings or packets.
 mod window;
 
-pub use hashing::hash;
-pub use hashing::hash_or;
+pub use window::is_set;
 pub use window::next_window;
 pub use window::octet_window;
 

@@ -1,9 +1,9 @@
--- `toeplitz::hashing::hash` meets its contract: the tests on the way to each return pick the case of `hashOutcome`.
+-- `hashing::hash` meets its contract: the tests on the way to each return pick the case of `hashOutcome`.
 use Rattle.octets.specs.Prelude.{_≡_, ap, _<_, arith, length, needs, eq-eqb, ne-eqb, le-leb, lt-leb}
 use Rattle.octets.specs.Outcome.{value}
 use Rattle.toeplitz.specs.Hash.{keyLength, maxInput}
-use Rattle.toeplitz.proofs.hashing.hash.Statement.{statement}
-use Rattle.toeplitz.proofs.hashing.hash.Tie as tie
+use Rattle.hashing.proofs.hash.Statement.{statement}
+use Rattle.hashing.proofs.hash.Tie as tie
 
 returns : tie.Need-returns
 returns c =

@@ -1,9 +1,9 @@
--- `toeplitz::hashing::hash_octets` meets its contract. The loop's invariant: the input bits of the octets below `at` are added.
+-- `hashing::hash_octets` meets its contract. The loop's invariant: the input bits of the octets below `at` are added.
 use Rattle.octets.specs.Prelude.{_≡_, refl, _≤_, _+_, _*_, _-_, arith, needs, length}
 use Rattle.toeplitz.specs.Hash.{xorBelow, publishedHash}
 use Rattle.toeplitz.specs.Inner.{hashBelow}
-use Rattle.toeplitz.proofs.hashing.hash_octets.Statement.{statement}
-use Rattle.toeplitz.proofs.hashing.hash_octets.Tie as tie
+use Rattle.hashing.proofs.hash_octets.Statement.{statement}
+use Rattle.hashing.proofs.hash_octets.Tie as tie
 
 abbrev Inv-loop : tie.InvT-loop
 Inv-loop key input sum₀ at₀ sum at = (sum ≡ hashBelow key input (at * 8)) × (at ≤ length input)

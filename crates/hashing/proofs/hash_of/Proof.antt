@@ -1,8 +1,8 @@
--- `toeplitz::hashing::hash_of` meets its contract: the parts lent on are the slices whole.
+-- `hashing::hash_of` meets its contract: the parts lent on are the slices whole.
 use Rattle.octets.specs.Prelude.{_≡_, ap₂, _∙_, List, ℕ, _-_, arith, length, take, take-all, needs}
 use Rattle.toeplitz.specs.Hash.{publishedHash}
-use Rattle.toeplitz.proofs.hashing.hash_of.Statement.{statement}
-use Rattle.toeplitz.proofs.hashing.hash_of.Tie as tie
+use Rattle.hashing.proofs.hash_of.Statement.{statement}
+use Rattle.hashing.proofs.hash_of.Tie as tie
 
 whole : (xs : List ℕ) → take (length xs - 0) xs ≡ xs
 whole xs = take-all (length xs - 0) xs (omega arith)

@@ -1,14 +1,14 @@
-// The hash: the XOR of the windows at the set input bits. Key and input are read in place, and no array is made.
-ghost use Rattle.octets.specs.Prelude.{_≡_, cond, _+_, _*_, _<_, _≤_, length, bitXor};
+// The hash call: the XOR of the windows at the set input bits. Key and input are read in place, and no array is made.
 ghost use Rattle.octets.specs.Outcome.{valueOr};
+ghost use Rattle.octets.specs.Prelude.{_≡_, cond, _+_, _*_, _<_, _≤_, length, bitXor};
 ghost use Rattle.toeplitz.specs.Hash.{keyLength, maxInput, publishedHash, hashOutcome, hashOutcomeOf};
 ghost use Rattle.toeplitz.specs.Inner.{hashBelow};
-use crate::HashAnswer;
-use crate::KEY_LENGTH;
-use crate::MAX_INPUT;
-use crate::window::is_set;
-use crate::window::next_window;
-use crate::window::octet_window;
+use toeplitz::HashAnswer;
+use toeplitz::KEY_LENGTH;
+use toeplitz::MAX_INPUT;
+use toeplitz::is_set;
+use toeplitz::next_window;
+use toeplitz::octet_window;
 
 // The published hash of the input under the key.
 pub fn hash(key: &[u8], input: &[u8]) -> HashAnswer

@@ -1,10 +1,10 @@
--- `toeplitz::hashing::add_octet` meets its contract. The loop's invariant: the window at bit j of the octet, and the bits below j are added.
+-- `hashing::add_octet` meets its contract. The loop's invariant: the window at bit j of the octet, and the bits below j are added.
 use Rattle.octets.specs.Prelude.{_≡_, _≤_, _+_, _*_, _-_, add-zero, add-assoc, arith, needs}
 use Rattle.toeplitz.specs.Hash.{windowAt}
 use Rattle.toeplitz.specs.Inner.{hashBelow}
 use Rattle.toeplitz.proofs.Windows.{sum-next}
-use Rattle.toeplitz.proofs.hashing.add_octet.Statement.{statement}
-use Rattle.toeplitz.proofs.hashing.add_octet.Tie as tie
+use Rattle.hashing.proofs.add_octet.Statement.{statement}
+use Rattle.hashing.proofs.add_octet.Tie as tie
 
 abbrev Inv-loop : tie.InvT-loop
 Inv-loop key input at before window₀ sum₀ j₀ window sum j =

@@ -1,7 +1,7 @@
--- `toeplitz::hashing::hash_or` meets its contract: the two tests pick the case of `hashOutcome`.
+-- `hashing::hash_or` meets its contract: the two tests pick the case of `hashOutcome`.
 use Rattle.octets.specs.Prelude.{⊎-elim, needs, eq-eqb, ne-eqb}
-use Rattle.toeplitz.proofs.hashing.hash_or.Statement.{statement}
-use Rattle.toeplitz.proofs.hashing.hash_or.Tie as tie
+use Rattle.hashing.proofs.hash_or.Statement.{statement}
+use Rattle.hashing.proofs.hash_or.Tie as tie
 
 returns : tie.Need-returns
 returns c = simp (eq-eqb _ _ (c .before .before .if1 .taken), c .before .if2 .taken) (c .hash-of .ensures)
