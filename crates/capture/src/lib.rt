@@ -1,13 +1,12 @@
-// Classic libpcap captures: the header, the records one after the other, and the IP packet in a record. A capture is
-// a stranger's: only what its length covers is looked at, and every length in it is checked before it is used.
-mod headers;
+// Classic libpcap captures: the order of their octets, and the records one after the other. A capture is a stranger's: only what
+// its length covers is looked at, and every length in it is checked before it is used.
 mod numbers;
-mod packets;
 mod reader;
 mod records;
 
-pub use headers::header;
-pub use packets::ip_part;
+pub use numbers::order_of;
+pub use numbers::u16_at;
+pub use numbers::u32_at;
 pub use reader::Reader;
 pub use reader::moved;
 pub use reader::next;
@@ -18,6 +17,11 @@ pub use reader::record_at;
 pub const HEADER_WRONG: u8 = 14;
 
 pub const RECORD_WRONG: u8 = 15;
+
+// The magic number of a capture whose times are in microseconds, and where it stands.
+pub const MAGIC: u32 = 0xA1B2C3D4;
+
+pub const MAGIC_AT: usize = 0;
 
 // Octets of the capture's header, and of a record's.
 pub const CAPTURE_HEADER: usize = 24;

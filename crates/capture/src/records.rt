@@ -4,7 +4,7 @@ ghost use Rattle.capture.specs.Records.{stepAt, stepOutcomeOf};
 use crate::MAX_RECORD;
 use crate::RECORD_HEADER;
 use crate::Step;
-use crate::headers::order;
+use crate::numbers::order_of;
 use crate::numbers::u32_at;
 
 // Where in a record's header the captured length stands.
@@ -20,7 +20,7 @@ pub(crate) fn step_at(capture: &[u8], at: usize) -> Step
     if capture.len() - at < RECORD_HEADER {
         return Step::Bad;
     }
-    let length = u32_at(capture, order(capture), at + LENGTH_AT);
+    let length = u32_at(capture, order_of(capture), at + LENGTH_AT);
     let start = at + RECORD_HEADER;
     if length > MAX_RECORD {
         return Step::Bad;

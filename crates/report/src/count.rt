@@ -115,7 +115,7 @@ fn count_record(
     ensures { λ r. ⌜ CountsOne (steered flags (now (key .entry)) (take count (now (entries .entry))) (ipPart link (now (frame .entry))))
         (length (now (frame .entry))) (now (packets .entry)) (now (octets .entry)) (now (packets .exit)) (now (octets .exit)) r ⌝ }
 {
-    let packet = capture::ip_part(link, frame);
+    let packet = link_types::ip_part(link, frame);
     let choice = interface::steer(flags, key, entries, count, packet);
     let on = queue(choice);
     let length = frame.len() as u32;

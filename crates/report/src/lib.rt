@@ -62,7 +62,7 @@ fn report_under(settings: Held, captured: &[u8]) -> Report
     requires { ⌜ Good (settingsHeld settings) × (length (now captured) ≤ maxFile) ⌝ }
     ensures { λ r. ⌜ (reportOf r ≡ reportUnder (settingsHeld settings) (now (captured .entry))) × (r .counts .queues ≤ maxQueues) ⌝ }
 {
-    let header = capture::header(captured);
+    let header = link_types::header(captured);
     match header {
         HeaderAnswer::Good(link) => count_records(settings, link, captured),
         HeaderAnswer::Bad => refused(HEADER_WRONG),

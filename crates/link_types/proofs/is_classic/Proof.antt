@@ -1,8 +1,8 @@
--- `capture::headers::is_classic` meets its contract: each return has passed the tests before it.
+-- `link_types::is_classic` meets its contract: each return has passed the tests before it.
 use Rattle.octets.specs.Prelude.{refl, ne-eqb, needs}
 use Rattle.capture.specs.Header.{isClassic}
-use Rattle.capture.proofs.headers.is_classic.Statement.{statement}
-use Rattle.capture.proofs.headers.is_classic.Tie as tie
+use Rattle.link_types.proofs.is_classic.Statement.{statement}
+use Rattle.link_types.proofs.is_classic.Tie as tie
 
 returns : tie.Need-returns
 unfolding isClassic

@@ -1,9 +1,9 @@
--- `capture::packets::ip_part` meets its contract: the part behind the header is there where the type was looked at.
+-- `link_types::ip_part` meets its contract: the part behind the header is there where the type was looked at.
 use Rattle.octets.specs.Prelude.{refl, sym, _∙_, arith, _-_, length, drop, length-drop, take-all, needs}
 use Rattle.capture.specs.Packets.{ipPart}
 use Rattle.capture.proofs.Frames.{frame-long, frame-part, frame-none}
-use Rattle.capture.proofs.packets.ip_part.Statement.{statement}
-use Rattle.capture.proofs.packets.ip_part.Tie as tie
+use Rattle.link_types.proofs.ip_part.Statement.{statement}
+use Rattle.link_types.proofs.ip_part.Tie as tie
 
 sub-result : tie.Need-sub-result
 sub-result c = let long = frame-long _ (sym (c .before .holds-ip .ensures) ∙ c .if1 .taken) in omega arith

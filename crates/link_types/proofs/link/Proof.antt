@@ -1,8 +1,8 @@
--- `capture::headers::link` meets its contract: the two link types, and no other.
+-- `link_types::link` meets its contract: the two link types, and no other.
 use Rattle.octets.specs.Prelude.{refl, ne-eqb}
 use Rattle.capture.specs.Header.{linkOutcome}
-use Rattle.capture.proofs.headers.link.Statement.{statement}
-use Rattle.capture.proofs.headers.link.Tie as tie
+use Rattle.link_types.proofs.link.Statement.{statement}
+use Rattle.link_types.proofs.link.Tie as tie
 
 returns : tie.Need-returns
 unfolding linkOutcome

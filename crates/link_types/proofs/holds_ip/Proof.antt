@@ -1,9 +1,9 @@
--- `capture::packets::holds_ip` meets its contract: the type is looked at only where the frame is long enough.
+-- `link_types::holds_ip` meets its contract: the type is looked at only where the frame is long enough.
 use Rattle.octets.specs.Prelude.{_≡_, refl, lt-leb, le-leb, ne-eqb, needs}
 use Rattle.capture.specs.Header.{bigEndianAt}
 use Rattle.capture.specs.Packets.{holdsIp}
-use Rattle.capture.proofs.packets.holds_ip.Statement.{statement}
-use Rattle.capture.proofs.packets.holds_ip.Tie as tie
+use Rattle.link_types.proofs.holds_ip.Statement.{statement}
+use Rattle.link_types.proofs.holds_ip.Tie as tie
 
 returns : tie.Need-returns
 unfolding holdsIp
