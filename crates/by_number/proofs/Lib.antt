@@ -1,4 +1,2 @@
--- The laws by which answers are told, and what a reader wants of them.
-pub mod Driving
+-- What the writer tells by number.
 pub mod Told
-pub mod Theorems

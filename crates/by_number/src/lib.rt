@@ -1,24 +1,54 @@
-// The calls whose answers have values, by number: the values go to places that are lent for them, which a refusal leaves as
-// they were. Of the guest's event the answer is told; the others are whole calls.
-mod guest;
-mod hashing;
-mod host;
-mod writing;
+// The guest's writer of requests and reader of acks by number: values go to places that are lent for them, which a refusal leaves
+// as they were.
+ghost use Rattle.octets.specs.Prelude.{_≡_};
+ghost use Rattle.octets.specs.Outcome.{numberOf, placed, itself};
+ghost use Rattle.guest_messages.specs.Writer.{writtenOutcomeOf};
+ghost use Rattle.guest_messages.specs.Reader.{readAck};
+ghost use Rattle.by_number.specs.Answers.{statusTold, flagsTold};
+use guest_messages::AckAnswer;
+use guest_messages::BUFFER_TOO_SHORT;
+use guest_messages::NOT_AN_ACK;
+use guest_messages::VALUE_NOT_LISTED;
+use guest_messages::Written;
+use messages::SUCCESS;
+use toeplitz::KEY_LENGTH_WRONG;
 
-pub use guest::tell_answer;
-pub use hashing::hash;
-pub use hashing::two_way;
-pub use host::steer;
-pub use writing::read_ack;
-pub use writing::write_get_flags;
-pub use writing::write_set_flags;
-pub use writing::write_set_key;
-pub use writing::write_set_mapping;
-
-// What a call answers that is not refused, but for an event and the packet question.
+// What a call answers that is not refused.
 const DONE: u32 = 0;
 
-// What the packet question answers.
-const UNHASHED: u32 = 0;
+// The number of an answer of the writer, with the message's length put into its place.
+pub fn tell_written(answer: Written, length: &mut usize) -> u32
+    ensures { λ r. ⌜ r ≡ numberOf (writtenOutcomeOf answer) ⌝ }
+    ensures { λ _. ⌜ now (length .exit) ≡ placed itself (writtenOutcomeOf answer) (now (length .entry)) ⌝ }
+{
+    match answer {
+        Written::Length(n) => {
+            *length = n;
+            DONE
+        }
+        Written::KeyLength => KEY_LENGTH_WRONG,
+        Written::Value => VALUE_NOT_LISTED,
+        Written::Buffer => BUFFER_TOO_SHORT,
+    }
+}
 
-const HASHED: u32 = 1;
+// Reads the ack to a request of type `kind`.
+pub fn read_ack(kind: u32, message: &[u8], status: &mut u32, flags: &mut u32) -> u32
+    ensures { λ r. ⌜ r ≡ numberOf (readAck kind (now (message .entry))) ⌝ }
+    ensures { λ _. ⌜ now (status .exit) ≡ placed statusTold (readAck kind (now (message .entry))) (now (status .entry)) ⌝ }
+    ensures { λ _. ⌜ now (flags .exit) ≡ placed flagsTold (readAck kind (now (message .entry))) (now (flags .entry)) ⌝ }
+{
+    let answer = ack_reader::read_ack(kind, message);
+    match answer {
+        AckAnswer::Status(s) => {
+            *status = s as u32;
+            DONE
+        }
+        AckAnswer::Flags(f) => {
+            *status = SUCCESS as u32;
+            *flags = f as u32;
+            DONE
+        }
+        AckAnswer::NotAnAck => NOT_AN_ACK,
+    }
+}

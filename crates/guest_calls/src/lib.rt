@@ -3,7 +3,7 @@ ghost use Rattle.octets.specs.Prelude.{_≡_};
 ghost use Rattle.guest_messages.specs.Writer.{getFlagsMessage, setFlagsMessage, setKeyMessage, setMappingMessage};
 ghost use Rattle.guest_steps.specs.Guest.{Good, guestIn};
 ghost use Rattle.guest_steps.specs.Calls.{startOf, eventOf};
-ghost use Rattle.by_number.specs.Answers.{Leaves, statusOfTold, flagsOfTold};
+ghost use Rattle.guest_numbers.specs.Answers.{Leaves, statusOfTold, flagsOfTold};
 use guest_steps::Ask;
 use guest_steps::MAX_ACK_PAYLOAD;
 use guest_steps::MAX_REQUEST;
@@ -146,5 +146,5 @@ pub fn guest_event<'a>(
         (now (flags .entry)) ⌝ }
 {
     let answer = frontend::event(numbers, request, header, payload, page);
-    by_number::tell_answer(answer, status, flags)
+    guest_numbers::tell_answer(answer, status, flags)
 }

@@ -1,11 +1,10 @@
 // The stages of a start: what it finds, the request put into its place, the request begun, and the number that it answers.
-ghost use Rattle.octets.specs.Prelude.{_≡_, cond, _^_, _≤_, _<_, length, getD};
+ghost use Rattle.octets.specs.Prelude.{_≡_, _^_, _≤_, _<_, length, getD};
 ghost use Rattle.page.specs.Page.{pageSize, areaSize};
 ghost use Rattle.guest_messages.specs.Writer.{after, written};
-ghost use Rattle.guest_steps.specs.Guest.{maxRequest, refusalNumber, requestOwed, pending};
+ghost use Rattle.guest_steps.specs.Guest.{maxRequest};
 ghost use Rattle.guest_steps.specs.Calls.{messageOf};
 ghost use Rattle.guest_steps.specs.Inner.{Readies, Begins};
-use guest_messages::NOT_AN_ACK;
 use guest_messages::Written;
 use guest_steps::Ask;
 use guest_steps::Finding;
@@ -15,20 +14,11 @@ use guest_steps::MAX_REQUEST;
 use guest_steps::NUMBERS;
 use guest_steps::OUTSTANDING;
 use guest_steps::PHASE;
-use guest_steps::REQUEST_OUTSTANDING;
 use guest_steps::Readiness;
 use guest_steps::Refusal;
 use guest_steps::WRITTEN;
 use guest_steps::find;
 use guest_steps::write_on;
-use page::PAGE_WRONG;
-use page::REQUESTS_WRONG;
-use page::RESPONSES_WRONG;
-
-// What a call of the guest's end answers, by number: no ack yet, or no request; or octets of the request are still owed.
-pub const PENDING: u32 = 0;
-
-pub const REQUEST_OWED: u32 = 2;
 
 // What a start finds: beside what every call finds, no request may be outstanding.
 pub fn ready(page: &[u8], numbers: &[u64; NUMBERS]) -> Readiness
@@ -79,24 +69,4 @@ pub fn begin(
     held[LENGTH] = n as u64;
     held[WRITTEN] = 0;
     write_on(numbers, request, room, page)
-}
-
-// The number that a start answers once its request is begun.
-pub fn begun_number(owed: bool) -> u32
-    ensures { λ r. ⌜ r ≡ cond owed requestOwed pending ⌝ }
-{
-    if owed { REQUEST_OWED } else { PENDING }
-}
-
-// The number of a refusal.
-pub fn refusal_number(refusal: Refusal) -> u32
-    ensures { λ r. ⌜ r ≡ refusalNumber refusal ⌝ }
-{
-    match refusal {
-        Refusal::PageLength => PAGE_WRONG,
-        Refusal::RequestCount => REQUESTS_WRONG,
-        Refusal::ResponseCount => RESPONSES_WRONG,
-        Refusal::AckRefused => NOT_AN_ACK,
-        Refusal::Outstanding => REQUEST_OUTSTANDING,
-    }
 }

@@ -12,7 +12,7 @@ use cases::print_cut;
 use cases::print_form;
 use cases::print_number;
 use cases::print_word;
-use guest_starts::refusal_number;
+use guest_numbers::refusal_number;
 use guest_steps::Ask;
 use guest_steps::Guest;
 use guest_steps::GuestAnswer;

@@ -3,7 +3,7 @@ ghost use Rattle.octets.specs.Prelude.{_≡_};
 ghost use Rattle.guest_messages.specs.Writer.{getFlagsMessage, setFlagsMessage, setKeyMessage, setMappingMessage};
 ghost use Rattle.guest_steps.specs.Guest.{Good, stateOf, guestAtSetup};
 ghost use Rattle.guest_steps.specs.Calls.{startOf, eventOf};
-ghost use Rattle.by_number.specs.Answers.{Leaves, statusOfTold, flagsOfTold};
+ghost use Rattle.guest_numbers.specs.Answers.{Leaves, statusOfTold, flagsOfTold};
 use guest_steps::Guest;
 
 // Sets up the guest: no request, and both own counts 0.

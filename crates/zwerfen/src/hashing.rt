@@ -3,7 +3,7 @@ ghost use Rattle.octets.specs.Prelude.{_≡_};
 ghost use Rattle.octets.specs.Outcome.{numberOf, placed, itself};
 ghost use Rattle.toeplitz.specs.Hash.{hashOutcome};
 ghost use Rattle.toeplitz.specs.TwoWay.{twoWayOutcome};
-ghost use Rattle.by_number.specs.Answers.{meets, bitTold};
+ghost use Rattle.questions.specs.Answers.{meets, bitTold};
 
 // The hash of the input under the key.
 #[no_mangle]
@@ -11,7 +11,7 @@ pub extern "C" fn zwerfen_hash(key: &[u8], input: &[u8], hash: &mut u32) -> u32
     ensures { λ r. ⌜ r ≡ numberOf (hashOutcome (now (key .entry)) (now (input .entry))) ⌝ }
     ensures { λ _. ⌜ now (hash .exit) ≡ placed itself (hashOutcome (now (key .entry)) (now (input .entry))) (now (hash .entry)) ⌝ }
 {
-    by_number::hash(key, input, hash)
+    questions::hash(key, input, hash)
 }
 
 // Whether the two directions of every conversation have one hash under the key, and else the lowest bit that tells.
@@ -26,5 +26,5 @@ pub extern "C" fn zwerfen_two_way(
     ensures { λ _. ⌜ now (meet .exit) ≡ placed meets (twoWayOutcome (now (key .entry)) «hash_type») (now (meet .entry)) ⌝ }
     ensures { λ _. ⌜ now (bit .exit) ≡ placed bitTold (twoWayOutcome (now (key .entry)) «hash_type») (now (bit .entry)) ⌝ }
 {
-    by_number::two_way(key, hash_type, meet, bit)
+    questions::two_way(key, hash_type, meet, bit)
 }

@@ -3,7 +3,7 @@ ghost use Rattle.octets.specs.Prelude.{_≡_};
 ghost use Rattle.octets.specs.Outcome.{numberOf, placed, itself};
 ghost use Rattle.interface.specs.States.{Good, stateOf, setUpOutcome, steeredBy};
 ghost use Rattle.interface.specs.Events.{left, eventOf};
-ghost use Rattle.by_number.specs.Answers.{Steers};
+ghost use Rattle.questions.specs.Answers.{Steers};
 use interface::Interface;
 
 // Sets up the interface with this many queues in operation, 1 to 64.
@@ -56,7 +56,7 @@ pub extern "C" fn zwerfen_steer(
         (now («hash_type» .entry)) (now (hash .entry)) r (now («hash_type» .exit)) (now (hash .exit))
         (now (queue .exit)) ⌝ }
 {
-    by_number::steer(
+    questions::steer(
         &interface.numbers,
         &interface.key,
         &interface.entries,

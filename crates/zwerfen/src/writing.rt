@@ -10,7 +10,8 @@ ghost use Rattle.by_number.specs.Answers.{statusTold, flagsTold, Writes};
 pub extern "C" fn zwerfen_write_get_flags(buffer: &mut [u8], length: &mut usize) -> u32
     ensures { λ r. ⌜ Writes getFlagsMessage (now (buffer .entry)) (now (length .entry)) r (now (buffer .exit)) (now (length .exit)) ⌝ }
 {
-    by_number::write_get_flags(buffer, length)
+    let answer = guest_messages::write_get_flags(buffer);
+    by_number::tell_written(answer, length)
 }
 
 // Sets the flags of the hash types to use.
@@ -18,7 +19,8 @@ pub extern "C" fn zwerfen_write_get_flags(buffer: &mut [u8], length: &mut usize)
 pub extern "C" fn zwerfen_write_set_flags(buffer: &mut [u8], flags: u64, length: &mut usize) -> u32
     ensures { λ r. ⌜ Writes (setFlagsMessage flags) (now (buffer .entry)) (now (length .entry)) r (now (buffer .exit)) (now (length .exit)) ⌝ }
 {
-    by_number::write_set_flags(buffer, flags, length)
+    let answer = guest_messages::write_set_flags(buffer, flags);
+    by_number::tell_written(answer, length)
 }
 
 // Sets the key, octet for octet.
@@ -27,7 +29,8 @@ pub extern "C" fn zwerfen_write_set_key(buffer: &mut [u8], key: &[u8], length: &
     ensures { λ r. ⌜ Writes (setKeyMessage (now (key .entry))) (now (buffer .entry)) (now (length .entry)) r (now (buffer .exit))
         (now (length .exit)) ⌝ }
 {
-    by_number::write_set_key(buffer, key, length)
+    let answer = guest_messages::write_set_key(buffer, key);
+    by_number::tell_written(answer, length)
 }
 
 // Sets the mapping: the queue of each entry.
@@ -40,7 +43,8 @@ pub extern "C" fn zwerfen_write_set_mapping(
     ensures { λ r. ⌜ Writes (setMappingMessage (now (entries .entry))) (now (buffer .entry)) (now (length .entry)) r (now (buffer .exit))
         (now (length .exit)) ⌝ }
 {
-    by_number::write_set_mapping(buffer, entries, length)
+    let answer = guest_messages::write_set_mapping(buffer, entries);
+    by_number::tell_written(answer, length)
 }
 
 // Reads the ack to a request of type `kind`.

@@ -3,8 +3,8 @@ use Rattle.octets.specs.Prelude.{ap, _∙_, needs}
 use Rattle.guest_steps.specs.Calls.{After}
 use Rattle.guest_steps.specs.declared.GuestAnswer.{GuestAnswer}
 use Rattle.octets.specs.Outcome.{done}
-use Rattle.by_number.specs.Answers.{statusOfTold, flagsOfTold}
-use Rattle.by_number.proofs.Driving.{tells}
+use Rattle.guest_numbers.specs.Answers.{statusOfTold, flagsOfTold}
+use Rattle.guest_numbers.proofs.Driving.{tells}
 use Rattle.guest_calls.proofs.guest_event.Statement.{statement}
 use Rattle.guest_calls.proofs.guest_event.Tie as tie
 

@@ -1,4 +1,4 @@
--- `zwerfen::zwerfen_steer` meets its contract: three parts of the interface are lent to `by_number::steer`, with the packet and
+-- `zwerfen::zwerfen_steer` meets its contract: three parts of the interface are lent to `questions::steer`, with the packet and
 -- the three places (`Exports.antt` of the crate `lending`). All that the proof knows of that function is that it meets its contract.
 use Rattle.octets.specs.Prelude.{refl}
 use mir.Syntax.{named, tyInt, w32}

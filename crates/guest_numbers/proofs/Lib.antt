@@ -1,0 +1,2 @@
+-- What a call of the guest's end tells by number.
+pub mod Driving

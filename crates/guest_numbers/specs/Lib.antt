@@ -1,0 +1,2 @@
+-- What the guest's calls tell by number.
+pub mod Answers

@@ -1,0 +1,2 @@
+-- What the questions tell by number.
+pub mod Answers
