@@ -139,51 +139,29 @@ module _ (area : ℕ) where
       ∙ put-run (drop r xs) (put area page c (take r xs)) (c + length (take r xs)) (omega arith)
       ∙ ap₂ (λ (p : List ℕ) (k : ℕ). sets p k (drop r xs)) (put-run (take r xs) page c (omega arith)) start
 
-  -- what a page holds once one part of it that was lent is back with the octets, and two
-  pub put-part : (xs page ys : List ℕ) (c k : ℕ) → c % areaSize + length xs ≤ areaSize → area + areaSize ≤ length page
-      → k ≡ length xs → ys ≡ xs → putMid (area + c % areaSize) k page ys ≡ put area page c xs
-  put-part xs page ys c k h l long e =
-      ap₂ (λ (n : ℕ) (zs : List ℕ). putMid (area + c % areaSize) n page zs) long e
-      ∙ part-sets page xs (area + c % areaSize) (length xs) refl (omega arith)
-      ∙ sym (put-run xs page c h)
+-- what a buffer holds once two runs of the page have been copied into it, the first of them as long as its part of the buffer is
+module _ (area : ℕ) (page into ys : List ℕ) (l : area + areaSize ≤ length page) (c r f : ℕ) (e : f ≡ r) (here : r ≡ areaSize - c % areaSize)
+    (h : r ≤ length into) (most : length into ≤ areaSize) (ey : ys ≡ take (length (take f into)) (drop (area + c % areaSize) page)) where
+  abbrev start : ℕ
+  start = area + c % areaSize
 
-  pub put-parts : (xs page ys zs : List ℕ) (c r f i j k : ℕ) → r ≡ areaSize - c % areaSize → r ≤ length xs → length xs ≤ areaSize
-      → area + areaSize ≤ length page → f ≡ r → i ≡ r → j ≡ length xs - r → k ≡ length xs - r
-      → ys ≡ take f xs → zs ≡ take k (drop r xs)
-      → putMid area j (putMid (area + c % areaSize) i page ys) zs ≡ put area page c xs
-  put-parts xs page ys zs c r f i j k here h most l ef ei ej ek ey ez =
-      let start = area + c % areaSize in
-      let front : length (take r xs) ≡ r = length-take-le r xs h in
-      let back : length (drop r xs) ≡ length xs - r = length-drop r xs in
-      let rest : zs ≡ drop r xs = ez ∙ take-all k (drop r xs) (omega arith) in
-      let first : putMid start i page ys ≡ sets page start (take r xs) =
-      ap₂ (λ (n : ℕ) (vs : List ℕ). putMid start n page vs) ei (ey ∙ ap (λ (m : ℕ). take m xs) ef)
-      ∙ part-sets page (take r xs) start r front (omega arith) in
-      let long : length (sets page start (take r xs)) ≡ length page = length-sets page start (take r xs) in
-      ap₂ (λ (n : ℕ) (vs : List ℕ). putMid area n (putMid start i page ys) vs) ej rest
-      ∙ ap (λ (p : List ℕ). putMid area (length xs - r) p (drop r xs)) first
-      ∙ part-sets (sets page start (take r xs)) (drop r xs) area (length xs - r) back (omega arith)
-      ∙ sym (put-over xs page c r here h most)
+  first : ys ≡ take r (drop start page)
+  first = ey ∙ ap (λ (k : ℕ). take k (drop start page)) (length-take-le f into (omega arith) ∙ e)
 
--- what a buffer holds once the octets have been copied into it from one part of the page, and from two
-module _ (area : ℕ) (page : List ℕ) (l : area + areaSize ≤ length page) where
-  pub read-part : (ys : List ℕ) (c k n : ℕ) → c % areaSize + n ≤ areaSize → k ≡ n → ys ≡ take k (drop (area + c % areaSize) page)
-      → ys ≡ octetsIn area page c n
-  read-part ys c k n h e ey = ey ∙ ap (λ (m : ℕ). take m (drop (area + c % areaSize) page)) e ∙ sym (octets-run area page c n h l)
+  front : length ys ≡ r
+  front = ap length first ∙ length-take-le r (drop start page) (omega (arith, length-drop start page))
 
-  pub read-parts : (into ys zs : List ℕ) (c r f i j n : ℕ) → r ≡ areaSize - c % areaSize → r ≤ n → n ≤ areaSize → length into ≡ n
-      → f ≡ r → i ≡ r → j ≡ n - r → ys ≡ take i (drop (area + c % areaSize) page) → zs ≡ take j (drop area page)
-      → putMid r (n - r) (putMid 0 f into ys) zs ≡ octetsIn area page c n
-  read-parts into ys zs c r f i j n here h most long ef ei ej ey ez =
-      let start = area + c % areaSize in
-      let first : ys ≡ take r (drop start page) = ey ∙ ap (λ (m : ℕ). take m (drop start page)) ei in
-      let second : zs ≡ take (n - r) (drop area page) = ez ∙ ap (λ (m : ℕ). take m (drop area page)) ej in
-      let left : length (drop start page) ≡ length page - start = length-drop start page in
-      let whole : length (drop area page) ≡ length page - area = length-drop area page in
-      let some : length ys ≡ r = ap length first ∙ length-take-le r (drop start page) (omega arith) in
-      let more : length zs ≡ n - r = ap length second ∙ length-take-le (n - r) (drop area page) (omega arith) in
-      ap (λ (m : ℕ). putMid r (n - r) (putMid 0 m into ys) zs) ef
-      ∙ parts-whole into ys zs r n long h some more
+  pub read-parts : (zs : List ℕ) → zs ≡ take (length (take (length into - r) (drop r (putMid 0 f into ys)))) (drop area page)
+      → putMid r (length into - r) (putMid 0 f into ys) zs ≡ octetsIn area page c (length into)
+  read-parts zs ez =
+      let n = length into in
+      let same : length (putMid 0 f into ys) ≡ n = ap length (part-sets into ys 0 f (front ∙ sym e) (omega arith)) ∙ length-sets into 0 ys in
+      let rest : length (take (n - r) (drop r (putMid 0 f into ys))) ≡ n - r =
+      length-take-le (n - r) (drop r (putMid 0 f into ys)) (omega (arith, length-drop r (putMid 0 f into ys))) in
+      let second : zs ≡ take (n - r) (drop area page) = ez ∙ ap (λ (k : ℕ). take k (drop area page)) rest in
+      let more : length zs ≡ n - r = ap length second ∙ length-take-le (n - r) (drop area page) (omega (arith, length-drop area page)) in
+      ap (λ (k : ℕ). putMid r (n - r) (putMid 0 k into ys) zs) e
+      ∙ parts-whole into ys zs r n refl h front more
       ∙ ap₂ (λ (us vs : List ℕ). us ++ vs) first second
       ∙ sym (octets-over area page c r n here h most l)
 

@@ -1,11 +1,7 @@
-// The shared page of a control ring: its counts, and its two areas. One end writes an area and the other end reads it; the
-// functions are for both, with the area and the places of the counts as parameters.
-mod areas;
+// The shared page of a control ring: where its counts and its two areas stand, and the counts themselves. One end writes an area and
+// the other end reads it; the functions are for both, with the places of the counts as parameters.
 mod counts;
 
-pub use areas::least;
-pub use areas::read_area;
-pub use areas::write_area;
 pub use counts::unread_by_other;
 pub use counts::unread_here;
 pub use counts::write_counts;

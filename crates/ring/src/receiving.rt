@@ -5,10 +5,10 @@ ghost use Rattle.messages.specs.Wire.{headerSize};
 ghost use Rattle.page.specs.Page.{areaSize, advanced, octetsIn};
 ghost use Rattle.ring.specs.Reading.{messageLength, isWhole, incomingOf, receivedFrom};
 ghost use Rattle.ring.specs.Inner.{headerMoved, payloadMoved};
+use areas::least;
+use areas::read_area;
 use messages::HEADER;
 use messages::SIZE_AT;
-use page::least;
-use page::read_area;
 
 // Octets of a header, as the octets taken of a message are counted.
 const HEADER_OCTETS: u64 = HEADER as u64;

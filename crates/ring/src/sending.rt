@@ -2,8 +2,8 @@
 ghost use Rattle.octets.specs.Prelude.{_≡_, _+_, _≤_, length};
 ghost use Rattle.page.specs.Page.{areaSize, put};
 ghost use Rattle.ring.specs.Writing.{outgoingOf, fitting, sentOctets};
-use page::least;
-use page::write_area;
+use areas::least;
+use areas::write_area;
 
 // Writes as many octets of the message of `size` octets, of which `written` are there, as fit into `room` octets of the
 // area at `area`, from the count `prod` on, and answers how many these are.

@@ -1,4 +1,4 @@
--- `ring::counts::write_counts` meets its contract: one count is written after the other.
+-- `page::counts::write_counts` meets its contract: one count is written after the other.
 use Rattle.octets.specs.Prelude.{refl, needs}
 use Rattle.page.proofs.counts.write_counts.Statement.{statement}
 use Rattle.page.proofs.counts.write_counts.Tie as tie
