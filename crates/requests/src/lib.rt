@@ -1,16 +1,11 @@
-// Requests judged and carried out: for each request its checks in order, and its effect only after the last. The
-// work is done in place, on the settings as they are lent, so that a request copies only what it replaces.
-ghost use Rattle.octets.specs.Prelude.{_≡_, length};
-ghost use Rattle.messages.specs.Wire.{maxPayload};
+// Requests carried out in place, on the settings as they are lent, and acked.
+ghost use Rattle.octets.specs.Prelude.{_≡_};
 ghost use Rattle.messages.specs.Settings.{settingsOf};
 ghost use Rattle.messages.specs.Requests.{requestOf, ackPayload, ackStored, carriedAs, carriedOut};
-ghost use Rattle.messages.specs.Inner.{Leaves, GetsFlags, SetsFlags, SetsKey, SetsMapping};
+ghost use Rattle.messages.specs.Inner.{Leaves};
 use messages::ALL_FLAGS;
 use messages::Ack;
-use messages::BUFFER_OVERFLOW;
-use messages::FIELD;
 use messages::GET_FLAGS;
-use messages::INVALID_PARAMETER;
 use messages::MAX_ACK;
 use messages::MAX_ENTRIES;
 use messages::MAX_PAYLOAD;
@@ -21,13 +16,6 @@ use messages::SET_KEY;
 use messages::SET_MAPPING;
 use messages::SUCCESS;
 use toeplitz::KEY_LENGTH;
-
-// Sizes as a header gives them.
-const FIELD_SIZE: u32 = FIELD as u32;
-
-const KEY_SIZE: u32 = KEY_LENGTH as u32;
-
-const MOST_ENTRIES: u32 = MAX_ENTRIES as u32;
 
 // Carries out the message of type `kind` with `size` octets of payload, of which the first 1,024 are kept, under settings
 // whose key and entries are lent: the effect goes into them and into the numbers answered, and the ack into its place.
@@ -84,16 +72,16 @@ fn apply(
         size (now (payload .entry)) r (settingsOf queues (now (flags .exit)) (now (key .exit)) (now (entries .exit)) (now (count .exit))) ⌝ }
 {
     if kind == GET_FLAGS {
-        return get_flags(size);
+        return judging::get_flags(size);
     }
     if kind == SET_FLAGS {
-        return set_flags(flags, size, payload);
+        return judging::set_flags(flags, size, payload);
     }
     if kind == SET_KEY {
-        return set_key(key, size, payload);
+        return judging::set_key(key, size, payload);
     }
     if kind == SET_MAPPING {
-        return set_mapping(queues, entries, count, size, payload);
+        return judging::set_mapping(queues, entries, count, size, payload);
     }
     NOT_SUPPORTED
 }
@@ -107,76 +95,4 @@ fn answer(kind: u32, status: u8) -> Ack
         return messages::with_flags(ALL_FLAGS);
     }
     messages::with_status(status)
-}
-
-// Each request by itself answers its status, and changes its own setting only when every check has passed.
-fn get_flags(size: u32) -> u8
-    ensures { λ r. ⌜ GetsFlags size r ⌝ }
-{
-    if size != 0 {
-        return INVALID_PARAMETER;
-    }
-    SUCCESS
-}
-
-fn set_flags(flags: &mut u8, size: u32, payload: &[u8]) -> u8
-    requires { ⌜ length (now payload) ≡ maxPayload ⌝ }
-    ensures { λ r. ⌜ SetsFlags size (now (payload .entry)) (now (flags .entry)) r (now (flags .exit)) ⌝ }
-{
-    if size != FIELD_SIZE {
-        return INVALID_PARAMETER;
-    }
-    let value = octets::read_u64(payload, 0);
-    if value > ALL_FLAGS as u64 {
-        return INVALID_PARAMETER;
-    }
-    *flags = value as u8;
-    SUCCESS
-}
-
-fn set_key(key: &mut [u8; KEY_LENGTH], size: u32, payload: &[u8]) -> u8
-    requires { ⌜ length (now payload) ≡ maxPayload ⌝ }
-    ensures { λ r. ⌜ SetsKey size (now (payload .entry)) (now (key .entry)) r (now (key .exit)) ⌝ }
-{
-    if size != KEY_SIZE {
-        return INVALID_PARAMETER;
-    }
-    // By an array of its own, of which the compiler knows that it lies apart from the payload: so the octets are
-    // moved many at a time.
-    let mut new = [0u8; KEY_LENGTH];
-    octets::copy(&mut new, &payload[0..KEY_LENGTH]);
-    *key = new;
-    SUCCESS
-}
-
-fn set_mapping(
-    queues: u8,
-    entries: &mut [u8; MAX_ENTRIES],
-    count: &mut u8,
-    size: u32,
-    payload: &[u8],
-) -> u8
-    requires { ⌜ length (now payload) ≡ maxPayload ⌝ }
-    ensures { λ r. ⌜ SetsMapping queues size (now (payload .entry)) (now (entries .entry)) (now (count .entry)) r (now (entries .exit))
-        (now (count .exit)) ⌝ }
-{
-    if size % FIELD_SIZE != 0 {
-        return INVALID_PARAMETER;
-    }
-    let new_count = size / FIELD_SIZE;
-    if !messages::is_power_of_two(new_count) {
-        return INVALID_PARAMETER;
-    }
-    if new_count > MOST_ENTRIES {
-        return BUFFER_OVERFLOW;
-    }
-    let built = messages::build_table(payload, new_count as u8, queues);
-    if !built.passed {
-        return INVALID_PARAMETER;
-    }
-    let mapping = built.mapping;
-    let table = mapping.entries;
-    *entries = table;
-    *count = mapping.count;
-    SUCCESS
 }

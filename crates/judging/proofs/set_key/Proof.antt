@@ -1,11 +1,11 @@
--- `requests::set_key` meets its contract: the test picks the row of the table, and the key is the copied part.
+-- `judging::set_key` meets its contract: the test picks the row of the table, and the key is the copied part.
 use Rattle.octets.specs.Prelude.{needs}
 use Rattle.messages.specs.Settings.{settingsOf}
 use Rattle.messages.specs.Requests.{setKey}
 use Rattle.messages.proofs.Statuses.{set-key-size, set-key-done}
 use Rattle.messages.proofs.Effects.{carried-refused, key-set}
-use Rattle.requests.proofs.set_key.Statement.{statement}
-use Rattle.requests.proofs.set_key.Tie as tie
+use Rattle.judging.proofs.set_key.Statement.{statement}
+use Rattle.judging.proofs.set_key.Tie as tie
 
 returns : tie.Need-returns
 returns c q flags entries count = carried-refused setKey _ _ _ 1 (set-key-size _ _ _ (c .if1 .taken))

@@ -1,12 +1,12 @@
--- `requests::set_mapping` meets its contract: the tests on the way to each return pick the row of the table.
+-- `judging::set_mapping` meets its contract: the tests on the way to each return pick the row of the table.
 use Rattle.octets.specs.Prelude.{_≡_, sym, _∙_, true, _/_, _%_, arith, needs, not-true, not-false}
 use Rattle.messages.specs.Wire.{fieldSize}
 use Rattle.messages.specs.Settings.{isPowerOfTwo, settingsOf}
 use Rattle.messages.specs.Requests.{setMapping}
 use Rattle.messages.proofs.Statuses.{set-mapping-remainder, set-mapping-power, set-mapping-many, set-mapping-entry, set-mapping-done}
 use Rattle.messages.proofs.Effects.{carried-refused, mapping-set}
-use Rattle.requests.proofs.set_mapping.Statement.{statement}
-use Rattle.requests.proofs.set_mapping.Tie as tie
+use Rattle.judging.proofs.set_mapping.Statement.{statement}
+use Rattle.judging.proofs.set_mapping.Tie as tie
 
 returns : tie.Need-returns
 returns c flags key = carried-refused setMapping _ _ _ 1 (set-mapping-remainder _ _ _ (λ e. omega (arith, c .if1 .taken)))

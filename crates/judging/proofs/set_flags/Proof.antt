@@ -1,12 +1,12 @@
--- `requests::set_flags` meets its contract: the tests on the way to each return pick the row of the table.
+-- `judging::set_flags` meets its contract: the tests on the way to each return pick the row of the table.
 use Rattle.octets.specs.Prelude.{_<_, arith, needs}
 use Rattle.messages.specs.Wire.{allFlags}
 use Rattle.messages.specs.Settings.{settingsOf}
 use Rattle.messages.specs.Requests.{setFlags}
 use Rattle.messages.proofs.Statuses.{set-flags-size, set-flags-value, set-flags-done}
 use Rattle.messages.proofs.Effects.{carried-refused, flags-set}
-use Rattle.requests.proofs.set_flags.Statement.{statement}
-use Rattle.requests.proofs.set_flags.Tie as tie
+use Rattle.judging.proofs.set_flags.Statement.{statement}
+use Rattle.judging.proofs.set_flags.Tie as tie
 
 returns : tie.Need-returns
 returns c q key entries count = carried-refused setFlags _ _ _ 1 (set-flags-size _ _ _ (c .if1 .taken))
