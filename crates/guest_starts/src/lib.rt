@@ -18,7 +18,7 @@ use guest_steps::Readiness;
 use guest_steps::Refusal;
 use guest_steps::WRITTEN;
 use guest_steps::find;
-use guest_steps::write_on;
+use guest_writes::write_on;
 
 // What a start finds: beside what every call finds, no request may be outstanding.
 pub fn ready(page: &[u8], numbers: &[u64; NUMBERS]) -> Readiness

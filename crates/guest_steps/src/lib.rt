@@ -1,15 +1,8 @@
-// The guest's end of the ring: how its state is stored, and the stages of its calls.
+// The guest's end of the ring: how its state is stored, what its calls answer, and what a call finds on the page.
 mod calls;
-mod seeing;
 
 pub use calls::find;
-pub use calls::keep;
-pub use calls::settle;
-pub use calls::write_counts;
-pub use calls::write_on;
-pub use calls::written_answer;
 use messages::HEADER;
-pub use seeing::look;
 
 // The refusal of a request begun while one is outstanding.
 pub const REQUEST_OUTSTANDING: u32 = 13;

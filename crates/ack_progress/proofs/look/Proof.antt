@@ -1,11 +1,11 @@
--- `guest_steps::seeing::look` meets its contract: each test on the way to a return is one of what is seen of an ack.
+-- `ack_progress::look` meets its contract: each test on the way to a return is one of what is seen of an ack.
 use Rattle.octets.specs.Prelude.{_≡_, sym, _∙_, false, ⊎-elim, arith, needs, not-true, not-false}
 use Rattle.messages.specs.Wire.{sizeIn}
 use Rattle.ring.specs.Reading.{Message}
 use Rattle.guest_steps.specs.Calls.{sizeWrong}
-use Rattle.guest_steps.proofs.Sights.{sees-no-header, sees-wrong, size-short, size-long, sees-part, sees-whole}
-use Rattle.guest_steps.proofs.seeing.look.Statement.{statement}
-use Rattle.guest_steps.proofs.seeing.look.Tie as tie
+use Rattle.ack_progress.proofs.Sights.{sees-no-header, sees-wrong, size-short, size-long, sees-part, sees-whole}
+use Rattle.ack_progress.proofs.look.Statement.{statement}
+use Rattle.ack_progress.proofs.look.Tie as tie
 
 returns-2 : tie.Need-returns-2
 returns-2 c =

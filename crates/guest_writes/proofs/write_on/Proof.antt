@@ -1,11 +1,11 @@
--- `guest_steps::calls::write_on` meets its contract: the octets of the request that fit are sent and counted at their places, and
+-- `guest_writes::write_on` meets its contract: the octets of the request that fit are sent and counted at their places, and
 -- the counts are written behind them.
 use Rattle.octets.specs.Prelude.{_≡_, refl, ap, _∙_, List, ℕ, _+_, arith, length, getD, length-set, ltb, needs}
 use Rattle.page.specs.Page.{countedByGuest}
 use Rattle.guest_steps.specs.Inner.{writtenAnswer}
 use Rattle.guest_steps.proofs.Finds.{told-written, stored-writes}
-use Rattle.guest_steps.proofs.calls.write_on.Statement.{statement}
-use Rattle.guest_steps.proofs.calls.write_on.Tie as tie
+use Rattle.guest_writes.proofs.write_on.Statement.{statement}
+use Rattle.guest_writes.proofs.write_on.Tie as tie
 
 -- once the numbers are lent
 module _ (d : tie.After-held) where

@@ -1,14 +1,14 @@
--- `guest_steps::seeing::judge` meets its contract: what the reader is handed is the header with the octets of the payload
+-- `ack_progress::judge` meets its contract: what the reader is handed is the header with the octets of the payload
 -- behind it.
 use Rattle.octets.specs.Prelude.{_≡_, refl, sym, ap, ap₂, _∙_, List, _++_, ℕ, _+_, _-_, arith, length, take, replicate, length-append, needs}
 use Rattle.messages.specs.Wire.{headerSize}
 use Rattle.guest_steps.specs.Guest.{maxAckPayload}
 use Rattle.guest_messages.specs.Reader.{readAck, ackOutcomeOf}
 use Rattle.guest_steps.specs.Calls.{judged}
 use Rattle.guest_messages.specs.declared.AckAnswer.{AckAnswer}
-use Rattle.guest_steps.proofs.Sights.{put-together, put-part}
-use Rattle.guest_steps.proofs.seeing.judge.Statement.{statement}
-use Rattle.guest_steps.proofs.seeing.judge.Tie as tie
+use Rattle.ack_progress.proofs.Sights.{put-together, put-part}
+use Rattle.ack_progress.proofs.judge.Statement.{statement}
+use Rattle.ack_progress.proofs.judge.Tie as tie
 
 -- what stands behind the header at first
 abbrev zeros : List ℕ

@@ -1,12 +1,12 @@
-// What is seen of an ack, whole or not.
+// How far the ack has come that is being read: a part of it, one that is refused, or a whole one and what it says.
 ghost use Rattle.octets.specs.Prelude.{_≡_, _++_, _≤_, take};
 ghost use Rattle.guest_messages.specs.Reader.{readAck};
 ghost use Rattle.guest_steps.specs.Guest.{maxAckPayload};
 ghost use Rattle.guest_steps.specs.Calls.{judged, seen};
 ghost use Rattle.guest_steps.specs.Inner.{sightOf};
-use crate::MAX_ACK_PAYLOAD;
-use crate::Sight;
 use guest_messages::AckAnswer;
+use guest_steps::MAX_ACK_PAYLOAD;
+use guest_steps::Sight;
 use messages::FIELD;
 use messages::HEADER;
 use messages::MAX_ACK;

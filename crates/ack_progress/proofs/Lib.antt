@@ -1,0 +1,2 @@
+-- What is seen of an ack.
+pub mod Sights
