@@ -1,4 +1,4 @@
--- `frontend::collecting::event` meets its contract: its tests are those of `eventOf`, in their order, and what it calls does what
+-- `frontend::events::event` meets its contract: its tests are those of `eventOf`, in their order, and what it calls does what
 -- the definitions say of each case.
 use Rattle.octets.specs.Prelude.{_≡_, sym, ap, _∙_, List, ℕ, needs, lt-ltb, le-ltb}
 use Rattle.octets.specs.Outcome.{value}
@@ -10,10 +10,10 @@ use Rattle.guest_steps.specs.declared.GuestAnswer.the-variants.{Pending, Refuse
 use Rattle.guest_steps.specs.declared.Finding.{Finding}
 use Rattle.frontend.proofs.Ways.{Within, found-within}
 use Rattle.guest_steps.proofs.Finds.{answered}
-use Rattle.frontend.proofs.Collects.{event-refused, event-idle, event-owing, event-reading}
+use Rattle.collecting.proofs.Collects.{event-refused, event-idle, event-owing, event-reading}
 use Rattle.frontend.proofs.Goodness.{good-event, left-good}
-use Rattle.frontend.proofs.collecting.event.Statement.{statement}
-use Rattle.frontend.proofs.collecting.event.Tie as tie
+use Rattle.frontend.proofs.events.event.Statement.{statement}
+use Rattle.frontend.proofs.events.event.Tie as tie
 
 -- the guest whose parts are lent, and its page
 module _ (s : tie.Start) where

@@ -1,4 +1,4 @@
--- `frontend::collecting::collect` meets its contract: what it leaves in each case of what is seen of the ack is what the
+-- `collecting::collect` meets its contract: what it leaves in each case of what is seen of the ack is what the
 -- definition says.
 use Rattle.octets.specs.Prelude.{_≡_, refl, ap, _∙_, List, ℕ, _+_, getD, needs}
 use Rattle.messages.specs.Wire.{typeIn}
@@ -10,9 +10,9 @@ use Rattle.guest_steps.specs.Inner.{sightOf}
 use Rattle.guest_steps.specs.declared.GuestAnswer.the-variants.{AckedStatus, AckedFlags}
 use Rattle.guest_steps.specs.declared.Sight.{Sight}
 use Rattle.guest_steps.proofs.Stored.{stored-kept}
-use Rattle.frontend.proofs.Collects.{reads-on, concludes-part, concludes-accepted, concludes-refused}
-use Rattle.frontend.proofs.collecting.collect.Statement.{statement}
-use Rattle.frontend.proofs.collecting.collect.Tie as tie
+use Rattle.collecting.proofs.Collects.{reads-on, concludes-part, concludes-accepted, concludes-refused}
+use Rattle.collecting.proofs.collect.Statement.{statement}
+use Rattle.collecting.proofs.collect.Tie as tie
 
 -- once the ack has been looked at
 module _ (d : tie.After-look) where
