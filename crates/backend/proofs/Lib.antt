@@ -1,7 +1,6 @@
 -- The laws of `backend` that other crates cite.
 pub mod Branches
 pub mod Goodness
-pub mod Steps
 pub mod Answers
 pub mod Pages
 pub mod Arrivals

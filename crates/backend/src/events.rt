@@ -1,18 +1,15 @@
 // The event of an interface's control ring: the counts are checked first, then an ack that is owed goes before
 // anything is read, and a request is carried out once it is whole. The work is done in place, on the parts of an
 // interface as they are lent, so that an event copies only what it moves.
-ghost use Rattle.octets.specs.Prelude.{_≡_, _^_, _≤_, _<_, length, getD};
-ghost use Rattle.messages.specs.Settings.{Good as GoodSettings};
+ghost use Rattle.octets.specs.Prelude.{_≡_, _≤_, _<_, length};
 ghost use Rattle.page.specs.Page.{pageSize, areaSize};
-ghost use Rattle.interface.specs.States.{Good, settingsIn, interfaceIn};
-ghost use Rattle.interface.specs.Events.{left, carriedOver, afterRead, proceeded, eventOf};
+ghost use Rattle.interface.specs.States.{Good, interfaceIn};
+ghost use Rattle.interface.specs.Events.{left, proceeded, eventOf};
 use interface::ACK_LENGTH;
 use interface::ACK_WRITTEN;
 use interface::NUMBERS;
 use interface::OWN_REQ_CONS;
 use interface::OWN_RSP_PROD;
-use interface::TAKEN;
-use interface::WAITING;
 use messages::HEADER;
 use messages::MAX_ACK;
 use messages::MAX_ENTRIES;
@@ -20,12 +17,10 @@ use messages::MAX_PAYLOAD;
 use page::AREA;
 use page::PAGE;
 use page::PAGE_WRONG;
-use page::REQ_CONS;
 use page::REQ_PROD;
 use page::REQUESTS_WRONG;
 use page::RESPONSES_WRONG;
 use page::RSP_CONS;
-use page::RSP_PROD;
 use toeplitz::KEY_LENGTH;
 
 // One event of the interface whose parts are lent, on its page, answered by document 01's number. The own counts are those in
@@ -94,39 +89,5 @@ fn proceed(
         return event_stages::respond(numbers, ack, room, page);
     }
     event_stages::read_request(&page[..], numbers, header, payload, unread);
-    conclude(numbers, header, payload, ack, key, entries, page, room)
-}
-
-// Once the octets there are have been read: a request that is whole is carried out, and as much of its ack written as fits.
-fn conclude(
-    numbers: &mut [u64; NUMBERS],
-    header: &[u8; HEADER],
-    payload: &[u8; MAX_PAYLOAD],
-    ack: &mut [u8; MAX_ACK],
-    key: &mut [u8; KEY_LENGTH],
-    entries: &mut [u8; MAX_ENTRIES],
-    page: &mut [u8],
-    room: u32,
-) -> u32
-    requires { ⌜ GoodSettings (settingsIn (now numbers) (now key) (now entries)) ⌝ }
-    requires { ⌜ Good (carriedOver (interfaceIn (now numbers) (now header) (now payload) (now ack) (now key) (now entries))) ⌝ }
-    requires { ⌜ (length (now page) ≡ pageSize) × (room ≤ areaSize) × (getD (now numbers) 4 0 < 2 ^ 32)
-        × (getD (now numbers) 7 0 < 2 ^ 32) ⌝ }
-    ensures { λ r. ⌜ left r (interfaceIn (now (numbers .exit)) (now (header .entry)) (now (payload .entry)) (now (ack .exit)) (now (key .exit))
-        (now (entries .exit))) (now (page .exit))
-        ≡ afterRead (interfaceIn (now (numbers .entry)) (now (header .entry)) (now (payload .entry)) (now (ack .entry)) (now (key .entry))
-        (now (entries .entry))) (now (page .entry)) room ⌝ }
-{
-    if ring::is_whole(header, numbers[TAKEN]) {
-        event_stages::carry_over(numbers, header, payload, ack, key, entries);
-        return event_stages::respond(numbers, ack, room, page);
-    }
-    page::write_counts(
-        page,
-        REQ_CONS,
-        numbers[OWN_REQ_CONS] as u32,
-        RSP_PROD,
-        numbers[OWN_RSP_PROD] as u32,
-    );
-    WAITING
+    concluding::conclude(numbers, header, payload, ack, key, entries, page, room)
 }

@@ -3,7 +3,7 @@ use Rattle.octets.specs.Prelude.{_≡_, sym, ap, subst, _∙_, List, ℕ, _≤_
 use Rattle.page.specs.Page.{pageSize, areaSize}
 use Rattle.interface.specs.States.{HostState, Good, interfaceIn}
 use Rattle.interface.specs.Events.{After, unread, unreadAcks}
-use Rattle.backend.proofs.Steps.{refused-page, refused-requests, refused-responses, goes-on}
+use Rattle.concluding.proofs.Steps.{refused-page, refused-requests, refused-responses, goes-on}
 use Rattle.backend.proofs.Goodness.{good-event}
 use Rattle.backend.proofs.events.event.Statement.{statement}
 use Rattle.backend.proofs.events.event.Tie as tie

@@ -4,7 +4,7 @@ use Rattle.octets.specs.Prelude.{_≡_, sym, subst, _∙_, List, ℕ, needs, lt
 use Rattle.interface.specs.States.{HostState, interfaceIn}
 use Rattle.interface.specs.Events.{readIn}
 use Rattle.backend.proofs.Goodness.{Concludes, read-concludes}
-use Rattle.backend.proofs.Steps.{proceeds-owing, proceeds-idle}
+use Rattle.concluding.proofs.Steps.{proceeds-owing, proceeds-idle}
 use Rattle.backend.proofs.events.proceed.Statement.{statement}
 use Rattle.backend.proofs.events.proceed.Tie as tie
 

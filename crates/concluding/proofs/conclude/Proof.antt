@@ -1,11 +1,11 @@
--- `backend::events::conclude` meets its contract: its test is that of `afterRead`, and what it calls does what the definitions
+-- `concluding::conclude` meets its contract: its test is that of `afterRead`, and what it calls does what the definitions
 -- say.
 use Rattle.octets.specs.Prelude.{_≡_, sym, subst, _∙_, needs}
 use Rattle.interface.specs.States.{HostState, Good, interfaceIn}
 use Rattle.interface.specs.Events.{carriedOver}
-use Rattle.backend.proofs.Steps.{concludes-whole, concludes-part}
-use Rattle.backend.proofs.events.conclude.Statement.{statement}
-use Rattle.backend.proofs.events.conclude.Tie as tie
+use Rattle.concluding.proofs.Steps.{concludes-whole, concludes-part}
+use Rattle.concluding.proofs.conclude.Statement.{statement}
+use Rattle.concluding.proofs.conclude.Tie as tie
 
 -- the interface whose parts are lent
 abbrev lent : tie.Start → HostState

@@ -1,13 +1,13 @@
--- `event_stages::carry_over` meets its contract: type and size stand in the header, the request is carried out by them, and
+-- `concluding::carry_over` meets its contract: type and size stand in the header, the request is carried out by them, and
 -- what it leaves is stored at its places.
 use Rattle.octets.specs.Prelude.{_≡_, ap₂, _∙_, ℕ, arith, length, length-set, needs}
 use Rattle.messages.specs.Requests.{carriedOut}
 use Rattle.messages.proofs.Powers.{listed-parts}
 use Rattle.interface.specs.States.{settingsIn, interfaceIn}
 use Rattle.event_stages.proofs.Parts.{carries}
 use Rattle.event_stages.proofs.Stored.{stored-carried}
-use Rattle.event_stages.proofs.carry_over.Statement.{statement}
-use Rattle.event_stages.proofs.carry_over.Tie as tie
+use Rattle.concluding.proofs.carry_over.Statement.{statement}
+use Rattle.concluding.proofs.carry_over.Tie as tie
 
 -- once the numbers are lent
 module _ (d : tie.After-held) where
