@@ -10,5 +10,5 @@ const ROOM: usize = KEY_LENGTH + MAX_INPUT + 1;
 fn main() {
     let mut buffer = [0u8; ROOM];
     let n = io::read_full(STDIN_FILENO, &mut buffer);
-    text::print(text::hash_text(&buffer[..n]));
+    text::print(answer_lines::hash_text(&buffer[..n]));
 }

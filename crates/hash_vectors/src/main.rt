@@ -58,13 +58,13 @@ fn split(kind: u8, body: &[u8]) {
 
 fn answer(kind: u8, first: &[u8], second: &[u8]) {
     if kind == HASH {
-        text::print(text::hash_line(hashing::hash(first, second)));
+        text::print(answer_lines::hash_line(hashing::hash(first, second)));
     } else if kind == TWO_WAY {
-        text::print(text::verdict_line(directions::two_way(first, hash_type(second))));
+        text::print(answer_lines::verdict_line(directions::two_way(first, hash_type(second))));
     } else if kind == HASH_PROGRAM {
-        text::print(text::hash_text(second));
+        text::print(answer_lines::hash_text(second));
     } else {
-        text::print(text::two_way_text(second));
+        text::print(answer_lines::two_way_text(second));
     }
 }
 

@@ -9,5 +9,5 @@ const ROOM: usize = KEY_LENGTH + 1;
 fn main() {
     let mut buffer = [0u8; ROOM];
     let n = io::read_full(STDIN_FILENO, &mut buffer);
-    text::print(text::two_way_text(&buffer[..n]));
+    text::print(answer_lines::two_way_text(&buffer[..n]));
 }

@@ -1,8 +1,8 @@
--- `text::hash_line` meets its contract: the line behind an empty text.
+-- `answer_lines::hash_line` meets its contract: the line behind an empty text.
 use Rattle.octets.specs.Prelude.{needs}
 use Rattle.text.proofs.Growth.{prints}
-use Rattle.text.proofs.hash_line.Statement.{statement}
-use Rattle.text.proofs.hash_line.Tie as tie
+use Rattle.answer_lines.proofs.hash_line.Statement.{statement}
+use Rattle.answer_lines.proofs.hash_line.Tie as tie
 
 pub hash-line-spec : {M : Type 1} → statement M
 hash-line-spec =

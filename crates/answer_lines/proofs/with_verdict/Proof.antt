@@ -1,7 +1,7 @@
--- `text::line::with_verdict` meets its contract: each arm adds the line of its case.
+-- `answer_lines::with_verdict` meets its contract: each arm adds the line of its case.
 use Rattle.octets.specs.Prelude.{arith, needs}
-use Rattle.text.proofs.line.with_verdict.Statement.{statement}
-use Rattle.text.proofs.line.with_verdict.Tie as tie
+use Rattle.answer_lines.proofs.with_verdict.Statement.{statement}
+use Rattle.answer_lines.proofs.with_verdict.Tie as tie
 
 returns : tie.Need-returns
 returns c =

@@ -1,9 +1,9 @@
--- `text::hash_text` meets its contract: where fewer than 40 octets were read, all are the key and none the input.
+-- `answer_lines::hash_text` meets its contract: where fewer than 40 octets were read, all are the key and none the input.
 use Rattle.octets.specs.Prelude.{_≡_, sym, ap, ap₂, _∙_, List, ℕ, _-_, min, decLt, arith, needs, length, take, drop, length-drop}
 use Rattle.octets.specs.Prelude.{drop-of-length-le, length-take-le, take-all}
 use Rattle.toeplitz.specs.Hash.{keyLength, hashOutcome}
-use Rattle.text.proofs.hash_text.Statement.{statement}
-use Rattle.text.proofs.hash_text.Tie as tie
+use Rattle.answer_lines.proofs.hash_text.Statement.{statement}
+use Rattle.answer_lines.proofs.hash_text.Tie as tie
 
 module _ (octets : List ℕ) (split : ℕ) (e : split ≡ min keyLength (length octets)) where
   key-part : take split octets ≡ take keyLength octets

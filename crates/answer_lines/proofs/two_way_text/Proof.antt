@@ -1,10 +1,10 @@
--- `text::two_way_text` meets its contract: a refusal, or four growths from an empty text, each with the answer of its type.
+-- `answer_lines::two_way_text` meets its contract: a refusal, or four growths from an empty text, each with the answer of its type.
 use Rattle.octets.specs.Prelude.{List, ℕ, needs, eq-eqb, ne-eqb}
 use Rattle.text.specs.Text.{Prints}
 use Rattle.text.specs.Lines.{typeLines}
 use Rattle.text.proofs.Growth.{adds-then, prints}
-use Rattle.text.proofs.two_way_text.Statement.{statement}
-use Rattle.text.proofs.two_way_text.Tie as tie
+use Rattle.answer_lines.proofs.two_way_text.Statement.{statement}
+use Rattle.answer_lines.proofs.two_way_text.Tie as tie
 
 -- where the first text is empty, and the key
 abbrev start-of : tie.After-with-type4 → tie.After-empty2

@@ -1,8 +1,8 @@
--- `text::verdict_line` meets its contract: the line behind an empty text.
+-- `answer_lines::verdict_line` meets its contract: the line behind an empty text.
 use Rattle.octets.specs.Prelude.{needs}
 use Rattle.text.proofs.Growth.{prints}
-use Rattle.text.proofs.verdict_line.Statement.{statement}
-use Rattle.text.proofs.verdict_line.Tie as tie
+use Rattle.answer_lines.proofs.verdict_line.Statement.{statement}
+use Rattle.answer_lines.proofs.verdict_line.Tie as tie
 
 pub verdict-line-spec : {M : Type 1} → statement M
 verdict-line-spec =

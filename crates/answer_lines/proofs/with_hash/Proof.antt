@@ -1,8 +1,8 @@
--- `text::line::with_hash` meets its contract: each arm adds the line of its case.
+-- `answer_lines::with_hash` meets its contract: each arm adds the line of its case.
 use Rattle.octets.specs.Prelude.{arith, needs}
 use Rattle.text.proofs.Growth.{adds-then}
-use Rattle.text.proofs.line.with_hash.Statement.{statement}
-use Rattle.text.proofs.line.with_hash.Tie as tie
+use Rattle.answer_lines.proofs.with_hash.Statement.{statement}
+use Rattle.answer_lines.proofs.with_hash.Tie as tie
 
 returns : tie.Need-returns
 returns c =

@@ -1,8 +1,8 @@
--- `text::line::with_type` meets its contract: two growths, one after the other.
+-- `answer_lines::with_type` meets its contract: two growths, one after the other.
 use Rattle.octets.specs.Prelude.{arith, needs}
 use Rattle.text.proofs.Growth.{adds-then}
-use Rattle.text.proofs.line.with_type.Statement.{statement}
-use Rattle.text.proofs.line.with_type.Tie as tie
+use Rattle.answer_lines.proofs.with_type.Statement.{statement}
+use Rattle.answer_lines.proofs.with_type.Tie as tie
 
 returns : tie.Need-returns
 returns c =
