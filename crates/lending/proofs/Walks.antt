@@ -11,7 +11,7 @@ pub use mir.Fields.{getV}
 pub use mir.Syntax.{Name, Ty, Local, local, Fn, Body, return, named, tyEnum, ttnil, Sym, Tys, tyInt, tyBool, tyFloat, tyPtr, tyRef, tyArray, tyUnit}
 pub use mir.Syntax.{tyStruct, tyNamed, Step as PStep, deref, field, variant, Place, place, Opd as Operand, copy, int, intNeg, intBig, float, opdTrue}
 pub use mir.Syntax.{opdFalse, opdUnit, ptrConst, Rv as RValue, rvOpd, op2, op1, addrOf, aggregate, repeat, skip, seq, assign, block, loop, cond}
-pub use mir.Syntax.{switch, exit, call, Lifetime, Width, w8, w64, erased}
+pub use mir.Syntax.{switch, exit, call, Lifetime, Width, w8, w32, w64, erased}
 pub use mir.Val.{Val, vptr, WT, hasTy, vunit, vbool, vint, vfloat, vstruct, vnil, vcons, ofList, WTs, bytes}
 pub use base.Fml.{Lft, Share, Fml, fsep, fres, fat, froom, fdies, GName, ftrue, fdead, flft, flent, fobs, fauth, fobor}
 pub use base.Logic.{SProp, ent, sep, id⊢, via, monoR, guardI, wand, emp, guard, comm∗, assoc∗, assoc′, monoL, emp∗, fst∗, wandI, allI, ex, apply∗}
@@ -37,7 +37,7 @@ pub use types.Run.{returns, exec, forget, enter, alloc1, alloc0, params1, pass1,
 pub use types.Tokens.{lft-new, lft-end, lent-back, shr-bor-open, obor-close}
 pub use sound.WpLaws.{fmOf, FmC, WpFn-mono}
 pub use denote.Array.{Array}
-pub use denote.Builtin.{usize, u8}
+pub use denote.Builtin.{usize, u8, u32, u64}
 pub use denote.Exit.{yes}
 pub use denote.Laws.{Typed, Is, valss, shows, Are, Ises, Spells, Tellss, Tells, Lawfuls, Copy}
 pub use denote.Lend.{lends-ref, ref-back, lends-shr}
