@@ -1,4 +1,5 @@
 -- The law of exported functions that lend the parts of a struct to one call.
+pub mod Walks
 pub mod Forward
 pub mod Spelt
 pub mod Lending

@@ -3,17 +3,10 @@
 --     a-number, a-unit, a-mut, a-shr, a-mut-slice, a-shr-slice     each of those
 --     Spelts, told, tells, all-typed    for a list of types
 -- It names no struct and no function of any crate. Assumes nothing.
-use mathlib.Core.Path.{sym, subst}
-use mathlib.Core.List.{List, [], _∷_, _++_}
-use lib.Dec.{eqb-refl}
-use mir.Syntax.{Ty, Lifetime, Width, tyInt, tyUnit}
-use mir.Val.{Val, bytes}
-use base.Fml.{Lft}
-use denote.RattleType.{RattleType, Denots, mirs, flat}
-use denote.Laws.{Typed, Is, Ises, Are, Tells, Tellss, Spells, valss}
-use denote.Plain.{UInt, uint-vals, uint-tells, Nothing, nothing-vals, nothing-tells}
-use denote.Ref.{MutRef, ShrRef, ptr-vals, mut-tells, shr-tells}
-use denote.Slice.{MutSlice, ShrSlice, slice-vals, mut-slice-tells, shr-slice-tells}
+use Rattle.lending.proofs.Walks.{sym, subst, List, [], _∷_, _++_, eqb-refl, Ty, Lifetime, Width, tyInt, tyUnit, Val, bytes, Lft, RattleType}
+use Rattle.lending.proofs.Walks.{Denots, mirs, flat, Typed, Is, Ises, Are, Tells, Tellss, Spells, valss, UInt, uint-vals, uint-tells, Nothing}
+use Rattle.lending.proofs.Walks.{nothing-vals, nothing-tells, MutRef, ShrRef, ptr-vals, mut-tells, shr-tells, MutSlice, ShrSlice, slice-vals}
+use Rattle.lending.proofs.Walks.{mut-slice-tells, shr-slice-tells}
 
 pub record Spelt (R : RattleType) : Type 1 where
   pub vals : R .Denot → List Val

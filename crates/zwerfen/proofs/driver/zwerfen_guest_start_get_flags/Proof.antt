@@ -1,30 +1,16 @@
 -- `zwerfen::zwerfen_guest_start_get_flags` meets its contract: the guest is lent in parts to `guest_calls::start_get_flags` (`Exports.antt` of the
 -- crate `lending`). All that the proof knows of that function is that it meets its contract.
-use Rattle.octets.specs.Prelude.{refl}
-use mir.Syntax.{named, tyInt, w32}
-use contract.Running.{givenOf}
-use denote.Builtin.{u8}
+use Rattle.lending.proofs.Exports.{refl, named, w32, u8, a-number, a-mut-slice, partsOf, valuesOf, tail, passing, lent}
 use Rattle.guest_calls.proofs.start_get_flags as call
-use Rattle.guest_calls.proofs.start_get_flags.Symbol as call-def
-use Rattle.guest_calls.proofs.start_get_flags.Met as call-thm
-use Rattle.lending.proofs.Spelt.{a-number, a-mut-slice}
-use Rattle.lending.proofs.Structs.{rowBy, partsOf, valuesOf, opens}
-use Rattle.lending.proofs.Exports.{tail, passing, exported, concluded}
 use Rattle.zwerfen.proofs.Parts.{guest}
 use Rattle.zwerfen.proofs.driver.zwerfen_guest_start_get_flags as f
-use Rattle.zwerfen.proofs.driver.zwerfen_guest_start_get_flags.Key.{name as #f}
-use Rattle.zwerfen.proofs.driver.zwerfen_guest_start_get_flags.Statement as stated
-use Rattle.zwerfen.proofs.driver.zwerfen_guest_start_get_flags.Code as code
 
-pub zwerfen-guest-start-get-flags-spec : {M : Type 1} → stated.statement M
-unfolding code.routine
+pub zwerfen-guest-start-get-flags-spec : {M : Type 1} → f.Statement.statement M
+unfolding f.Code.routine
 zwerfen-guest-start-get-flags-spec 𝓤 H 𝓜 𝓖 𝓡 =
-    concluded 𝓤 H 𝓜 𝓖 𝓡 f.signature call.signature (f.spec 𝓤 H) (call.spec 𝓤 H) code.env #f code.function
-    (code.unfolded 𝓤 H 𝓜 𝓡)
-    call-def.name call-def.routine code.calls-guest-calls·start-get-flags (call-thm.met 𝓤 H 𝓜 𝓖 𝓡) (λ 𝓣 known.
-    exported (rowBy guest) (partsOf guest) 1 (tail (f.signature .params)) (f.ended .kept .1) (f.signature .result)
-    𝓤 H (𝓖 .A) (givenOf 𝓤 H 𝓜 𝓖) 𝓣 code.function call-def.name
-    (λ κs. (a-mut-slice (named 1) (κs .1 .0) u8, tt))
-    (opens guest 𝓤 H (𝓖 .A) (givenOf 𝓤 H 𝓜 𝓖)) (f.clauses 𝓤 H (𝓖 .A) (𝓜 .mem) (𝓡 .run))
-    (tyInt w32) (λ κs. a-number w32) (λ κs. refl) (λ κs. refl) (λ κs x b o bs. (refl, refl))
-    (λ κs qs ref x us g ν γs. known (passing (partsOf guest) (valuesOf guest) κs qs ref x us ν γs, g)))
+    lent guest 1 (tail (f.signature .params)) (f.ended .kept .1) (f.signature .result) 𝓤 H 𝓜 𝓖 𝓡 (f.clauses 𝓤 H (𝓖 .A) (𝓜 .mem) (𝓡 .run))
+    call.signature (call.spec 𝓤 H (𝓖 .A) (𝓜 .mem) (𝓡 .run)) f.Code.env f.Key.name f.Code.function (f.Code.unfolded 𝓤 H 𝓜 𝓡)
+    call.Symbol.name call.Symbol.routine f.Code.calls-guest-calls·start-get-flags (call.Met.met 𝓤 H 𝓜 𝓖 𝓡)
+    (λ κs. (a-mut-slice (named 1) (κs .1 .0) u8, tt)) (λ κs. a-number w32) (λ κs. refl) (λ κs. refl)
+    (λ 𝓣 κs x b o bs. (refl, refl))
+    (λ 𝓣 known κs qs ref x us g ν γs. known (passing (partsOf guest) (valuesOf guest) κs qs ref x us ν γs, g))

@@ -1,32 +1,22 @@
 -- `zwerfen::zwerfen_steer` meets its contract: three parts of the interface are lent to `questions::steer`, with the packet and
 -- the three places (`Exports.antt` of the crate `lending`). All that the proof knows of that function is that it meets its contract.
-use Rattle.octets.specs.Prelude.{refl}
-use mir.Syntax.{named, tyInt, w32}
-use contract.Running.{givenOf}
-use denote.Builtin.{u8, u32}
-use denote.Triple.Entry.{onEntry}
+use Rattle.lending.proofs.Walks.{givenOf, onEntry, tyInt}
+use Rattle.lending.proofs.Structs.{sift, sifted, looks}
+use Rattle.lending.proofs.Exports.{refl, named, w32, u8, u32, a-number, a-mut, a-shr-slice, rowBy, partsOf, valuesOf, tail, passing, asking, looked}
+use Rattle.lending.proofs.Exports.{concluded}
 use Rattle.messages.specs.Settings.{Good as GoodSettings}
 use Rattle.interface.specs.States.{Good, stateOf}
-use Rattle.by_number.proofs.steer as call
-use Rattle.by_number.proofs.steer.Symbol as call-def
-use Rattle.by_number.proofs.steer.Met as call-thm
-use Rattle.lending.proofs.Spelt.{a-number, a-mut, a-shr-slice}
-use Rattle.lending.proofs.Structs.{rowBy, partsOf, valuesOf, sift, sifted, looks}
-use Rattle.lending.proofs.Exports.{tail, passing, asking, looked, concluded}
+use Rattle.questions.proofs.steer as call
 use Rattle.zwerfen.proofs.Parts.{interface, steering}
 use Rattle.zwerfen.proofs.host.zwerfen_steer as f
-use Rattle.zwerfen.proofs.host.zwerfen_steer.Key.{name as #f}
-use Rattle.zwerfen.proofs.host.zwerfen_steer.Statement as stated
-use Rattle.zwerfen.proofs.host.zwerfen_steer.Code as code
 
-pub zwerfen-steer-spec : {M : Type 1} → stated.statement M
-unfolding code.routine
+pub zwerfen-steer-spec : {M : Type 1} → f.Statement.statement M
+unfolding f.Code.routine
 zwerfen-steer-spec 𝓤 H 𝓜 𝓖 𝓡 =
-    concluded 𝓤 H 𝓜 𝓖 𝓡 f.signature call.signature (f.spec 𝓤 H) (call.spec 𝓤 H) code.env #f code.function
-    (code.unfolded 𝓤 H 𝓜 𝓡)
-    call-def.name call-def.routine code.calls-by-number·steer (call-thm.met 𝓤 H 𝓜 𝓖 𝓡) (λ 𝓣 known.
+    concluded 𝓤 H 𝓜 𝓖 𝓡 f.signature call.signature (f.spec 𝓤 H) (call.spec 𝓤 H) f.Code.env f.Key.name f.Code.function
+    (f.Code.unfolded 𝓤 H 𝓜 𝓡) call.Symbol.name call.Symbol.routine f.Code.calls-questions·steer (call.Met.met 𝓤 H 𝓜 𝓖 𝓡) (λ 𝓣 known.
     looked (rowBy interface) (sift steering (partsOf interface)) 4 (tail (f.signature .params)) (f.ended .kept .1) (f.signature .result)
-    𝓤 H (𝓖 .A) (givenOf 𝓤 H 𝓜 𝓖) 𝓣 code.function call-def.name (λ κs.
+    𝓤 H (𝓖 .A) (givenOf 𝓤 H 𝓜 𝓖) 𝓣 f.Code.function call.Symbol.name (λ κs.
     let κt = κs .1 .1 in (
       a-shr-slice (named 1) (κs .1 .0) u8,
       (a-mut (named 2) (κt .0) u32, (a-mut (named 3) (κt .1 .0) u32, (a-mut (named 4) (κt .1 .1 .0) u32, tt))),
