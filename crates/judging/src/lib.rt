@@ -78,11 +78,10 @@ pub fn set_mapping(
     if new_count > MOST_ENTRIES {
         return BUFFER_OVERFLOW;
     }
-    let built = messages::build_table(payload, new_count as u8, queues);
-    if !built.passed {
+    if !messages::all_below(payload, new_count as u8, queues) {
         return INVALID_PARAMETER;
     }
-    let mapping = built.mapping;
+    let mapping = messages::build_table(payload, new_count as u8);
     let table = mapping.entries;
     *entries = table;
     *count = mapping.count;

@@ -66,6 +66,14 @@ not-below q n p k x l e h =
     same-truth (allBelow q (entriesIn n p)) false
     (λ a. absurd (omega (arith, test-each q (entriesIn n p) a k (rw length-entries l)))) (λ f. absurd (false≢true f))
 
+-- an entry among those that are below q
+pub entry-below : (q n : ℕ) (p : List ℕ) (k x : ℕ) → EachBelow q (entriesIn n p) → k < n → x ≡ numberAt 8 p (k * 8) → x < q
+entry-below q n p k x h l e = rw (e, ← entry-at n p k l) (h k (rw length-entries l))
+
+-- entries below a count of queues fit an octet
+pub below-octets : (q : ℕ) (xs : List ℕ) → q < 256 → allBelow q xs ≡ true → EachBelow 256 xs
+below-octets q xs h a i l = omega (arith, test-each q xs a i l)
+
 -- the array with one entry more
 pub stored-next : (k x : ℕ) (p table : List ℕ) → k < maxEntries → x ≡ numberAt 8 p (k * 8) → table ≡ mappingOf (entriesIn k p) .entries
     → set table k x ≡ mappingOf (entriesIn (k + 1) p) .entries

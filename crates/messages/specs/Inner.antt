@@ -2,12 +2,6 @@
 use Rattle.octets.specs.Prelude.{_≡_, List, true, ℕ}
 use Rattle.messages.specs.Settings.{Settings, mappingOf, settingsOf}
 use Rattle.messages.specs.Requests.{Request, getFlags, setFlags, setKey, setMapping, entriesIn, allBelow, ackPayload, ackStored, carriedBy}
-use Rattle.messages.specs.declared.table.Built.{Built}
-
--- whether the first n entries of the payload are all below q, and if so the mapping of them
-pub record Builds (q n : ℕ) (p : List ℕ) (r : Built) : Type 0 where
-  pub passed : r .passed ≡ allBelow q (entriesIn n p)
-  pub mapping : r .passed ≡ true → r .mapping ≡ mappingOf (entriesIn n p)
 
 -- a request of size n with payload p has this status and leaves these settings: with the ack of the status they are what
 -- carrying it out gives

@@ -1,13 +1,14 @@
 // The control messages: their types, statuses and lengths, what the settings of an interface are, and two parts of carrying a
 // request out: the table that a mapping gives, and the ack.
 mod acks;
+mod power;
 mod table;
 
 pub use acks::with_flags;
 pub use acks::with_status;
-pub use table::Built;
+pub use power::is_power_of_two;
+pub use table::all_below;
 pub use table::build_table;
-pub use table::is_power_of_two;
 
 // Message types: of the host's answer, and of the guest's requests.
 pub const ACK_TYPE: u32 = 1;

@@ -2,8 +2,9 @@
 use Rattle.octets.specs.Prelude.{_≡_, sym, _∙_, true, _/_, _%_, arith, needs, not-true, not-false}
 use Rattle.messages.specs.Wire.{fieldSize}
 use Rattle.messages.specs.Settings.{isPowerOfTwo, settingsOf}
-use Rattle.messages.specs.Requests.{setMapping}
+use Rattle.messages.specs.Requests.{setMapping, entriesIn, allBelow}
 use Rattle.messages.proofs.Statuses.{set-mapping-remainder, set-mapping-power, set-mapping-many, set-mapping-entry, set-mapping-done}
+use Rattle.messages.proofs.Tables.{below-octets}
 use Rattle.messages.proofs.Effects.{carried-refused, mapping-set}
 use Rattle.judging.proofs.set_mapping.Statement.{statement}
 use Rattle.judging.proofs.set_mapping.Tie as tie
@@ -34,23 +35,31 @@ returns-3 c flags key =
 
 returns-4 : tie.Need-returns-4
 returns-4 c flags key =
-    let built = c .before .before in
-    let few = built .before in
-    let bad = sym (built .build-table .ensures .passed) ∙ not-true _ (c .if4 .taken) in
+    let judged = c .before in
+    let few = judged .before in
+    let bad = sym (judged .all-below .ensures) ∙ not-true _ (c .if4 .taken) in
     carried-refused setMapping _ _ _ 1 (set-mapping-entry _ _ _ (multiple (few .before)) (power (few .before)) (few .if3 .left) bad)
+
+-- once every entry is below the queue count
+module _ (d : tie.Else4) where
+  all : allBelow (start (d .before .before .before) .args .queues)
+      (entriesIn (start (d .before .before .before) .args .size / fieldSize) (start (d .before .before .before) .args .payload .now)) ≡ true
+  all = sym (d .before .all-below .ensures) ∙ not-false _ (d .if4 .left)
+
+build-table-requires : tie.Need-build-table-requires
+build-table-requires c κs = (search needs, search needs, below-octets _ _ (search needs) (all c))
 
 returns-5 : tie.Need-returns-5
 returns-5 c flags key =
-    let last = c .before .before in
-    let built = last .before .before in
-    let few = built .before in
+    let built = c .before in
+    let few = built .before .before .before in
     let d = few .before in
     let a = start d .args in
     let held = settingsOf (a .queues) flags key (a .entries .now) (a .count .now) in
-    let passed = not-false _ (last .if4 .left) in
-    let all = sym (built .build-table .ensures .passed) ∙ passed in
-    mapping-set held _ _ _ (built .build-table .ensures .mapping passed) (set-mapping-done _ _ _ (multiple d) (power d) (few .if3 .left) all)
+    mapping-set held _ _ _ (built .build-table .ensures)
+    (set-mapping-done _ _ _ (multiple d) (power d) (few .if3 .left) (all (built .before)))
 
 pub set-mapping-spec : {M : Type 1} → statement M
 set-mapping-spec =
-    tie.close (tie.spec returns (λ c κs. search needs) returns-2 returns-3 (λ c. search needs) (λ c κs. search needs) returns-4 returns-5)
+    tie.close (tie.spec returns (λ c κs. search needs) returns-2 returns-3 (λ c. search needs) (λ c κs. search needs) returns-4
+    (λ c. search needs) build-table-requires returns-5)

@@ -1,9 +1,9 @@
--- `messages::table::is_power_of_two` meets its contract, by the law of n AND (n - 1).
+-- `messages::power::is_power_of_two` meets its contract, by the law of n AND (n - 1).
 use Rattle.octets.specs.Prelude.{refl, needs}
 use Rattle.messages.specs.Settings.{isPowerBelow, isPowerOfTwo}
 use Rattle.messages.proofs.Powers.{power-told}
-use Rattle.messages.proofs.table.is_power_of_two.Statement.{statement}
-use Rattle.messages.proofs.table.is_power_of_two.Tie as tie
+use Rattle.messages.proofs.power.is_power_of_two.Statement.{statement}
+use Rattle.messages.proofs.power.is_power_of_two.Tie as tie
 
 returns : tie.Need-returns
 unfolding isPowerBelow isPowerOfTwo
