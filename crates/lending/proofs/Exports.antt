@@ -1,20 +1,22 @@
 -- An exported function that takes a struct behind a `&mut` as its first parameter, lends its parts to one call, in front of its
 -- other parameters as they came, and returns what that returns, meets the contract of that call, read through the struct.
 --     passing          what the call binds, for the author to hand to its theorem
---     forwarded        a function that only forwards to a call meets its contract, if what it has gives what the call leaves
+--     followed         a function whose code does what a course says meets its contract, if what it has gives what the course asks
+--     forwarded        so does one that only forwards to a call, if what it has gives what the call leaves
 --     exported         so does one that lends the parts of a struct behind a `&mut` at its first lifetime, where the call meets its own
 --     looked           the same of a struct behind a `&`
 --     concluded        a proof over the function's MIR that cites one callee, as the statement about the function
+--     lent             both, where all parts of a struct of simple fields are lent
 -- It names no struct and no function of any crate. Assumes `Given`.
-use Rattle.lending.proofs.Walks.{_≡_, sym, subst, ap, _∙_, ℕ, zero, suc, List, [], _∷_, _++_, T, getD, URA, fullShare, Name, Ty, Local, local}
-use Rattle.lending.proofs.Walks.{Fn, Body, return, tyEnum, ttnil, Val, vptr, WT, hasTy, SProp, ent, sep, id⊢, via, monoR, guardI, Lft}
-use Rattle.lending.proofs.Walks.{Share, Fml, fsep, fres, Memory, Model, Routine, Heap, WpFn, Tables, Closed, Atoms, sem, Lfts, Shares}
-use Rattle.lending.proofs.Walks.{AllOutlive, Lowered, signatureOf, toks, Fun, fact, factI, fact-use, Running, GhostRules, givenOf, tables}
-use Rattle.lending.proofs.Walks.{tablesOf, fmOf, Given, RattleType, Denots, Valss, mirs, owns, flat, Typed, Is, valss, shows, yes, Signature}
-use Rattle.lending.proofs.Walks.{Slot, Matches, mutRefTo, shrRefTo, plain, typeAt, typesAt, RefT, at-last, Ended, Clauses, ensured, closing}
-use Rattle.lending.proofs.Walks.{Args, Vals, alive, onEntry, Kepts, Fins, outs, lastsOf, Spec, Meets, tripleOf, Triple, entered, cited}
+use Rattle.lending.proofs.Walks.{_≡_, sym, subst, ap, _∙_, ℕ, zero, suc, List, [], _∷_, _++_, T, URA, fullShare, Name, Ty, Local, local, Fn}
+use Rattle.lending.proofs.Walks.{return, Val, vptr, WT, hasTy, SProp, ent, sep, id⊢, via, monoR, guardI, Lft, Share, Fml, Memory, Model}
+use Rattle.lending.proofs.Walks.{Routine, Heap, WpFn, Tables, Closed, Atoms, sem, Lfts, Shares, AllOutlive, Lowered, signatureOf, toks, Fun}
+use Rattle.lending.proofs.Walks.{fact, factI, fact-use, Running, GhostRules, givenOf, tables, tablesOf, fmOf, Given, RattleType, Denots, Valss}
+use Rattle.lending.proofs.Walks.{mirs, owns, flat, Typed, Is, valss, shows, yes, Signature, Slot, Matches, mutRefTo, shrRefTo, plain, typeAt}
+use Rattle.lending.proofs.Walks.{typesAt, RefT, at-last, Ended, Clauses, ensured, closing, Args, Vals, alive, onEntry, Kepts, Fins, outs}
+use Rattle.lending.proofs.Walks.{lastsOf, Spec, Meets, tripleOf, Triple, entered, cited, Are, Ises}
 use prog.Routine.{Env}
-use Rattle.lending.proofs.Forward.{Blocks, frameOf, EachTyped, Entered, Forwards, forward}
+use Rattle.lending.proofs.Forward.{Course, gives, asks, Blocks, frameOf, resultOf, EachTyped, Entered, Follows, Forwards, Does, follow, once}
 use Rattle.lending.proofs.Spelt.{Spelt, Spelts, told, all-tell, all-typed, a-shr}
 use Rattle.lending.proofs.Lending.{Part, Values, Names, Refs, Ptrs, Lasts, refs, ptrs, firsts, lastly, saids, pointers, ownss, Opens}
 use Rattle.lending.proofs.Lending.{After, fits, lends-to, spelled}
@@ -64,9 +66,6 @@ abbrev tails : List Ty → List Ty
 tails [] = []
 tails (τ ∷ τs) = τs
 
-abbrev tyOf : List (Ty × ℕ) → Ty
-tyOf E = getD E zero (tyEnum [] ttnil, zero) .0
-
 each-typed : (k : ℕ) (ls : List Local) (bs : Blocks ls) (vs : List Val) → Typed (tysOf k ls) vs → EachTyped (frameOf ls bs) vs
 each-typed k ls bs [] x = tt
 each-typed k [] bs (v ∷ vs) x = absurd x
@@ -84,49 +83,67 @@ params-typed k [] bs τ τs vs e x = absurd (subst is-cons e tt)
 params-typed zero (local σ h ∷ ls) bs τ τs vs e x = none-typed (frameOf ls (bs .1)) vs (subst (λ (σs : List Ty). Typed σs vs) (ap tails e) x)
 params-typed (suc k) (local σ h ∷ ls) bs τ τs vs e x = each-typed k ls (bs .1) vs (subst (λ (σs : List Ty). Typed σs vs) (ap tails e) x)
 
-result-type : (k : ℕ) (ls : List Local) (bs : Blocks ls) (τ : Ty) (τs : List Ty) → τ ∷ τs ≡ tysOf k ls → τ ≡ tyOf (frameOf ls bs)
-result-type k [] bs τ τs e = absurd (subst is-cons e tt)
-result-type k (local σ h ∷ ls) bs τ τs e = ap (heads τ) e
+result-type : (k : ℕ) (ls : List Local) (τ : Ty) (τs : List Ty) → τ ∷ τs ≡ tysOf k ls → τ ≡ resultOf ls
+result-type k [] τ τs e = absurd (subst is-cons e tt)
+result-type k (local σ h ∷ ls) τ τs e = ap (heads τ) e
 
--- ---- a function that forwards to a call, whatever its parameters are
-module _ (S : Ended) {M : Type 1} (𝓤 : URA M) (H : Heap 𝓤) (A : Atoms 𝓤) (W : Given 𝓤 H A) (c : Clauses 𝓤 S) (𝓣 : Tables 𝓤 H)
-    (fn : Fn)
-    (callee : Name) (spelt : (κs : Lfts (S .signature .lifetimes)) → Spelts (typesAt (S .signature .params) κs)) where
-  module _ (κs : Lfts (S .signature .lifetimes)) (a : Args (S .signature) κs) where
-    abbrev vals : Vals (S .signature) κs
-    vals = valss (typesAt (S .signature .params) κs) (told (typesAt (S .signature .params) κs) (spelt κs)) a
+-- ---- a function whose code does what a course says, whatever its parameters are. Its result is of one MIR type τ, and its MIR has the
+-- signature's types
+module _ (S : Ended) {M : Type 1} (𝓤 : URA M) (H : Heap 𝓤) (A : Atoms 𝓤) (W : Given 𝓤 H A) (c : Clauses 𝓤 S) (𝓣 : Tables 𝓤 H) (fn : Fn)
+    (spelt : (κs : Lfts (S .signature .lifetimes)) → Spelts (typesAt (S .signature .params) κs)) {τ : Ty}
+    (one : (κs : Lfts (S .signature .lifetimes)) → typeAt (S .signature .result) κs .mir ≡ τ ∷ []) (matches : Matches (S .signature) fn) where
+  module _ (κs : Lfts (S .signature .lifetimes)) where
+    abbrev types : List RattleType
+    types = typesAt (S .signature .params) κs
 
-    abbrev in-a-row : List Val
-    in-a-row = flat (typesAt (S .signature .params) κs) vals
+    mir-types : τ ∷ mirs types ≡ signatureOf fn .2
+    mir-types = sym (ap (λ (τs : List Ty). τs ++ mirs types) (one κs)) ∙ ap (λ (s : Lowered). s .2) (matches κs)
 
-  -- the result is of one MIR type τ; the MIR has the signature's types; the MIR passes us to the call; and that gives what is ensured
-  pub forwarded : (τ : Ty) (res : (κs : Lfts (S .signature .lifetimes)) → Spelt (typeAt (S .signature .result) κs))
-      → ((κs : Lfts (S .signature .lifetimes)) → typeAt (S .signature .result) κs .mir ≡ τ ∷ []) → Matches (S .signature) fn
-      → (us : (κs : Lfts (S .signature .lifetimes)) → Args (S .signature) κs → List Val)
+    module _ (a : Args (S .signature) κs) where
+      abbrev vals : Vals (S .signature) κs
+      vals = valss types (told types (spelt κs)) a
+
+      abbrev in-a-row : List Val
+      in-a-row = flat types vals
+
+      module _ (qs : Shares (S .signature .lifetimes)) (bounds : AllOutlive (S .signature .lifetimes) (S .signature .outlives) κs)
+          (g : c κs a .ghost) where
+        abbrev Before : SProp 𝓤
+        Before = sep 𝓤 (onEntry 𝓤 H A (S .signature) κs qs a vals) (c κs a .requires g)
+
+        abbrev Behind : Val → SProp 𝓤
+        Behind = tripleOf 𝓤 H A (S .signature) (closing 𝓤 H A S c) .post ((κs, qs, bounds, a, vals), g)
+
+  pub followed : (t : (κs : Lfts (S .signature .lifetimes)) → Args (S .signature) κs → Course)
+      → ((κs : Lfts (S .signature .lifetimes)) (a : Args (S .signature) κs) → Follows fn (in-a-row κs a) (t κs a))
+      → ((κs : Lfts (S .signature .lifetimes)) (qs : Shares (S .signature .lifetimes))
+      (bounds : AllOutlive (S .signature .lifetimes) (S .signature .outlives) κs) (a : Args (S .signature) κs) (g : c κs a .ghost)
+      → Are (types κs) (Ises (types κs)) a (vals κs a)
+      → ent 𝓤 (Before κs a qs bounds g) (Does 𝓤 H (𝓣 .C) (Behind κs a qs bounds g) (t κs a)))
+      → Meets 𝓤 H A (S .signature) (WpFn 𝓤 H (𝓣 .C) (𝓣 .Λ) fn) (closing 𝓤 H A S c)
+  followed t goes met = spelled 𝓤 H A W (S .signature) (closing 𝓤 H A S c) (WpFn 𝓤 H (𝓣 .C) (𝓣 .Λ) fn)
+      (λ κs. told (types κs) (spelt κs)) (λ κs. all-tell (types κs) (spelt κs)) (λ κs qs bounds a g are.
+      via 𝓤 _ (met κs qs bounds a g are) (follow 𝓤 H A W (𝓣 .C) (𝓣 .Λ) (fmOf 𝓤 H (W .laws) 𝓣) (Behind κs a qs bounds g) fn (in-a-row κs a) (t κs a)
+      (goes κs a) (λ bs. params-typed (fn .params) (fn .locals) bs τ (mirs (types κs)) (in-a-row κs a) (mir-types κs)
+      (all-typed (types κs) (spelt κs) a are))))
+
+  -- the MIR passes us to one call, and that gives what is ensured
+  pub forwarded : (res : (κs : Lfts (S .signature .lifetimes)) → Spelt (typeAt (S .signature .result) κs)) (callee : Name)
+      (us : (κs : Lfts (S .signature .lifetimes)) → Args (S .signature) κs → List Val)
       → ((κs : Lfts (S .signature .lifetimes)) (a : Args (S .signature) κs) → Forwards fn (in-a-row κs a) callee (us κs a))
       → ((κs : Lfts (S .signature .lifetimes)) (qs : Shares (S .signature .lifetimes))
       (bounds : AllOutlive (S .signature .lifetimes) (S .signature .outlives) κs) (a : Args (S .signature) κs) (g : c κs a .ghost)
-      → ent 𝓤 (sep 𝓤 (onEntry 𝓤 H A (S .signature) κs qs a (vals κs a)) (c κs a .requires g)) (H .⇛ (𝓣 .C callee (us κs a)
-      (tripleOf 𝓤 H A (S .signature) (closing 𝓤 H A S c) .post ((κs, qs, bounds, a, vals κs a), g)))))
+      → ent 𝓤 (Before κs a qs bounds g) (H .⇛ (𝓣 .C callee (us κs a) (Behind κs a qs bounds g))))
       → Meets 𝓤 H A (S .signature) (WpFn 𝓤 H (𝓣 .C) (𝓣 .Λ) fn) (closing 𝓤 H A S c)
-  forwarded τ res one matches us goes met = spelled 𝓤 H A W (S .signature) (closing 𝓤 H A S c) (WpFn 𝓤 H (𝓣 .C) (𝓣 .Λ) fn)
-      (λ κs. told (typesAt (S .signature .params) κs) (spelt κs)) (λ κs. all-tell (typesAt (S .signature .params) κs) (spelt κs))
-      (λ κs qs bounds a g are.
+  forwarded res callee us goes met = followed (λ κs a. asks callee (us κs a) (resultOf (fn .locals)) gives) goes (λ κs qs bounds a g are.
       let R : RattleType = typeAt (S .signature .result) κs in
       let own : R .Denot → Val → Fml = λ r v. R .own r (v ∷ []) in
-      let all : List RattleType = typesAt (S .signature .params) κs in
-      let mir : τ ∷ mirs all ≡ signatureOf fn .2 = sym (ap (λ (τs : List Ty). τs ++ mirs all) (one κs))
-      ∙ ap (λ (s : Lowered). s .2) (matches κs) in
-      forward 𝓤 H A W (𝓣 .C) (𝓣 .Λ) (fmOf 𝓤 H (W .laws) 𝓣) callee (us κs a)
-      (sep 𝓤 (onEntry 𝓤 H A (S .signature) κs qs a (vals κs a)) (c κs a .requires g))
-      (tripleOf 𝓤 H A (S .signature) (closing 𝓤 H A S c) .post ((κs, qs, bounds, a, vals κs a), g)) (met κs qs bounds a g)
-      fn (in-a-row κs a) (goes κs a)
-      (λ bs. params-typed (fn .params) (fn .locals) bs τ (mirs all) (in-a-row κs a) mir (all-typed all (spelt κs) a are))
-      (λ bs. fits 𝓤 H A W (alive 𝓤 H A (S .signature) κs qs) (R .Denot) own (ensured 𝓤 H A S c κs a g)
-      (λ v. T (hasTy (tyOf (frameOf (fn .locals) bs)) v) × WT v)
+      via 𝓤 _ (met κs qs bounds a g) (once 𝓤 H A W (𝓣 .C) (𝓣 .Λ) (fmOf 𝓤 H (W .laws) 𝓣) (Behind κs a qs bounds g) callee (us κs a)
+      (resultOf (fn .locals))
+      (fits 𝓤 H A W (alive 𝓤 H A (S .signature) κs qs) (R .Denot) own (ensured 𝓤 H A S c κs a g) (λ v. T (hasTy (resultOf (fn .locals)) v) × WT v)
       (λ r v. fact-use 𝓤 (Is R r (v ∷ [])) (shows 𝓤 H A R r (v ∷ [])) (λ is. guardI 𝓤 _ (sem 𝓤 H A (own r v))
-      (subst (λ (σ : Ty). T (hasTy σ v) × WT v) (result-type (fn .params) (fn .locals) bs τ (mirs all) mir)
-      (subst (λ (τs : List Ty). Typed τs (v ∷ [])) (one κs) (res κs .typed r (v ∷ []) is) .0))))))
+      (subst (λ (σ : Ty). T (hasTy σ v) × WT v) (result-type (fn .params) (fn .locals) τ (mirs (types κs)) (mir-types κs))
+      (subst (λ (τs : List Ty). Typed τs (v ∷ [])) (one κs) (res κs .typed r (v ∷ []) is) .0)))))))
 
 -- ---- a struct behind a reference, and other parameters
 module _ (row : RattleType) (ps : List Part) (m : ℕ) (rest : List (Slot (suc m))) (ks : Kepts rest) (result : Slot (suc m)) where
@@ -175,8 +192,7 @@ module _ (row : RattleType) (ps : List Part) (m : ℕ) (rest : List (Slot (suc m
     pub exported : (S : Opens 𝓤 H A row ps) (c : Clauses 𝓤 Changed) (τ : Ty) (res : (κs : Lfts (suc m)) → Spelt (typeAt result κs))
         → ((κs : Lfts (suc m)) → typeAt result κs .mir ≡ τ ∷ []) → Matches (Changed .signature) fn → Passes → Lends S c
         → Meets 𝓤 H A (Changed .signature) (WpFn 𝓤 H (𝓣 .C) (𝓣 .Λ) fn) (closing 𝓤 H A Changed c)
-    exported S c τ res one matches goes met = forwarded Changed 𝓤 H A W c 𝓣 fn callee (λ κs. (a-mut (named 0) (κs .0) row, spelt κs))
-        τ res one matches
+    exported S c τ res one matches goes met = forwarded Changed 𝓤 H A W c 𝓣 fn (λ κs. (a-mut (named 0) (κs .0) row, spelt κs)) one matches res callee
         (λ κs a. pointers (a .0 .ptr .0) (a .0 .ptr .1) ps (others κs (a .1))) (λ κs a. goes κs (a .1) (a .0 .ptr .0) (a .0 .ptr .1))
         (λ κs qs bounds a g.
         let ref : RefT (row .Denot) = a .0 in
@@ -200,8 +216,7 @@ module _ (row : RattleType) (ps : List Part) (m : ℕ) (rest : List (Slot (suc m
         (Looking.Lasts ps (Fins κs rest ks x)) (Looking.saids ps (Fins κs rest ks x) (lastsOf κs rest ks x))
         (λ r zs. c κs (ref, x) .ensures g r (ref, outs κs rest ks x (Looking.lastly ps (Fins κs rest ks x) zs))))
         → Meets 𝓤 H A (Looked .signature) (WpFn 𝓤 H (𝓣 .C) (𝓣 .Λ) fn) (closing 𝓤 H A Looked c)
-    looked S c τ res one matches goes met = forwarded Looked 𝓤 H A W c 𝓣 fn callee (λ κs. (a-shr (named 0) (κs .0) row, spelt κs)) τ res
-        one matches
+    looked S c τ res one matches goes met = forwarded Looked 𝓤 H A W c 𝓣 fn (λ κs. (a-shr (named 0) (κs .0) row, spelt κs)) one matches res callee
         (λ κs a. pointers (a .0 .ptr .0) (a .0 .ptr .1) ps (others κs (a .1))) (λ κs a. goes κs (a .1) (a .0 .ptr .0) (a .0 .ptr .1))
         (λ κs qs bounds a g.
         let ref : RefT (row .Denot) = a .0 in

@@ -1,20 +1,23 @@
--- A function that only makes pointers and passes them on: each statement sets a local, that holds nothing yet, to the address
--- of a field behind a reference, to a slice made of a slice's pointer and count, or to a copy of a local; then it calls one
--- function, and returns what that returned. Such code reads no memory but its own locals.
---     Forwards fn vs f us    by computation: fn called with the values vs calls f with the values us
---     forward                then what gives `C f us Q`, after an update of ghost state, gives `WpFn fn vs Q`
+-- A function that only passes values on: each statement sets a local, that holds nothing yet, to a number, to the address of a field
+-- behind a reference, to a struct made of such, to a copy of a local or of its field, or to what a call returns; then it returns. Such
+-- code reads no memory but its own locals.
+--     Follows fn vs t        by computation: fn called with the values vs does t: it calls functions one after the other, and returns
+--     Does C Q t, follow     what is to be had for t, and that it gives `WpFn fn vs Q`
+--     Forwards fn vs f us    fn calls f with the values us, and returns what that returned
+--     once                   then what gives `C f us Q`, after an update of ghost state, is enough
 -- It names no struct and no function of any crate. Assumes `Given`, and that the table of calls is monotone under a frame.
 use Rattle.lending.proofs.Walks.{_≡_, refl, sym, subst, ap, _∙_, ℕ, zero, suc, _+_, Bool, true, false, List, [], _∷_, T, getD, URA, fullShare}
 use Rattle.lending.proofs.Walks.{Name, Sym, Ty, Tys, tyInt, tyBool, tyFloat, tyPtr, tyRef, tyArray, tyUnit, tyStruct, tyEnum, tyNamed, ttnil}
 use Rattle.lending.proofs.Walks.{PStep, deref, field, variant, Place, place, Operand, copy, int, intNeg, intBig, float, opdTrue, opdFalse}
 use Rattle.lending.proofs.Walks.{opdUnit, ptrConst, RValue, rvOpd, op2, op1, addrOf, aggregate, repeat, Body, skip, seq, assign, block, loop}
 use Rattle.lending.proofs.Walks.{cond, switch, exit, return, call, Local, local, Fn, Val, vunit, vbool, vint, vfloat, vptr, vstruct, vnil}
-use Rattle.lending.proofs.Walks.{vcons, ofList, WT, WTs, hasTy, getV, SProp, ent, sep, wand, emp, guard, id⊢, via, comm∗, assoc∗, assoc′}
-use Rattle.lending.proofs.Walks.{monoL, monoR, emp∗, fst∗, wandI, allI, guardI, fat, froom, fdies, fieldOf, fieldAt, Heap, Calls, Loops, WpFn}
-use Rattle.lending.proofs.Walks.{Wp, Env, alloc, params, pass, release, atReturn, Atoms, FmC, Given, Item, ‵, raw, _⊛_, given, later, mean, ⋆}
-use Rattle.lending.proofs.Walks.{nth, put, push, pop, runs, atRet, Go, Goal, Seq, Sq, _$_, _∵_, !, qed, by, move, use1, split, frame, assume}
-use Rattle.lending.proofs.Walks.{check, await, learn, join, group, Reads, Walks, Finds, Opd, Opds, Rv, look, init, stop, hop, fld, from, load}
-use Rattle.lending.proofs.Walks.{addr, no-more, and-then, of-opd, assigns, land, calls, returns, exec, agg, whole, sub, look-in, calls-from}
+use Rattle.lending.proofs.Walks.{vcons, ofList, WT, WTs, hasTy, getV, SProp, ent, sep, emp, guard, id⊢, via, comm∗, assoc∗, assoc′, monoR}
+use Rattle.lending.proofs.Walks.{emp∗, fst∗, wandI, allI, fat, froom, fdies, fieldOf, fieldAt, Heap, Calls, Loops, WpFn, Wp, Env, alloc}
+use Rattle.lending.proofs.Walks.{params, pass, release, atReturn, Atoms, FmC, Given, Item, ‵, raw, _⊛_, given, later, mean, ⋆, nth, put, push}
+use Rattle.lending.proofs.Walks.{pop, runs, atRet, Go, Goal, Sq, _$_, _∵_, !, qed, by, move, use1, split, frame, assume, check, await, learn}
+use Rattle.lending.proofs.Walks.{join, group, Reads, Walks, Opd, Opds, Rv, look, init, stop, hop, fld, from, load, addr, no-more, and-then}
+use Rattle.lending.proofs.Walks.{of-opd, exec, agg, whole, sub, look-in, ltb, lit<, _^_, bits, nextᴼ, returnsᴼ, afterSeq, post, Post, prop}
+use Rattle.lending.proofs.Walks.{anyQ, updating, at-once, first, assigns-last, land-last, returns-within, lit, calls-from-last}
 use mathlib.Core.Option.{Option, none, some}
 use mir.Val.{Vals}
 use types.Part.{Part}
@@ -79,33 +82,34 @@ abbrev OnTrue : Bool → Type 0 → Type 0
 OnTrue false X = ⊥
 OnTrue true X = X
 
-abbrev OnPtr : Val → (ℕ → ℕ → Type 0) → Type 0
-OnPtr vunit k = ⊥
-OnPtr (vbool b) k = ⊥
-OnPtr (vint w n) k = ⊥
-OnPtr (vfloat f x) k = ⊥
-OnPtr (vptr b o) k = k b o
-OnPtr (vstruct vs) k = ⊥
+-- a pointer, the fields of a struct, and the type of one
+abbrev ptrOf : (v : Val) → Option ((b : ℕ) × (o : ℕ) × (v ≡ vptr b o))
+ptrOf vunit = none
+ptrOf (vbool b) = none
+ptrOf (vint w n) = none
+ptrOf (vfloat f x) = none
+ptrOf (vptr b o) = some (b, o, refl)
+ptrOf (vstruct vs) = none
 
-abbrev OnFields : Val → (Vals → Type 0) → Type 0
-OnFields vunit k = ⊥
-OnFields (vbool b) k = ⊥
-OnFields (vint w n) k = ⊥
-OnFields (vfloat f x) k = ⊥
-OnFields (vptr b o) k = ⊥
-OnFields (vstruct vs) k = k vs
+abbrev fieldsOf : (v : Val) → Option ((vs : Vals) × (v ≡ vstruct vs))
+fieldsOf vunit = none
+fieldsOf (vbool b) = none
+fieldsOf (vint w n) = none
+fieldsOf (vfloat f x) = none
+fieldsOf (vptr b o) = none
+fieldsOf (vstruct vs) = some (vs, refl)
 
-abbrev OnStruct : Ty → (Sym → Tys → Type 0) → Type 0
-OnStruct (tyInt w) k = ⊥
-OnStruct tyBool k = ⊥
-OnStruct (tyFloat f) k = ⊥
-OnStruct tyPtr k = ⊥
-OnStruct (tyRef κ μ τ) k = ⊥
-OnStruct (tyArray τ n) k = ⊥
-OnStruct tyUnit k = ⊥
-OnStruct (tyStruct ν τs) k = k ν τs
-OnStruct (tyEnum ν τss) k = ⊥
-OnStruct (tyNamed h) k = ⊥
+abbrev structOf : (τ : Ty) → Option ((ν : Sym) × (τs : Tys) × (τ ≡ tyStruct ν τs))
+structOf (tyInt w) = none
+structOf tyBool = none
+structOf (tyFloat f) = none
+structOf tyPtr = none
+structOf (tyRef κ μ τ) = none
+structOf (tyArray τ n) = none
+structOf tyUnit = none
+structOf (tyStruct ν τs) = some (ν, τs, refl)
+structOf (tyEnum ν τss) = none
+structOf (tyNamed h) = none
 
 -- the fields st of a τ that begins at o
 abbrev Down : Ty → ℕ → List PStep → (ℕ → Type 0) → Type 0
@@ -117,7 +121,12 @@ Down τ o (variant n ∷ st) k = ⊥
 module _ (E : Frame) (cs : Cells E) where
   -- field n of the struct in the local i
   abbrev InField : ℕ → ℕ → (Val → Type 0) → Type 0
-  InField i n k = OnSome (valOf E cs i) (λ v. OnFields v (λ vs. OnStruct (tyAt E i) (λ ν τs. OnSome (fieldAt zero τs n) (λ f. k (getV vs n)))))
+  InField i n k = OnSome (valOf E cs i) (λ v. OnSome (fieldsOf v) (λ s. OnSome (structOf (tyAt E i)) (λ z.
+      OnSome (fieldAt zero (z .1) n) (λ f. k (getV (s .0) n)))))
+
+  -- st of what a pointer v to a τ points to
+  abbrev Behind : Val → Ty → List PStep → (Val → Type 0) → Type 0
+  Behind v τ st k = OnSome (ptrOf v) (λ a. Down τ (a .1) st (λ o. k (vptr (a .0) o)))
 
   abbrev AtPlace : ℕ → List PStep → (Val → Type 0) → Type 0
   AtPlace i [] k = OnSome (valOf E cs i) k
@@ -128,7 +137,7 @@ module _ (E : Frame) (cs : Cells E) where
 
   abbrev OkOpd : Operand → (Val → Type 0) → Type 0
   OkOpd (copy (place i st)) k = AtPlace i st k
-  OkOpd (int w n) k = ⊥
+  OkOpd (int w n) k = OnTrue (ltb n (2 ^ bits w)) (k (vint w n))
   OkOpd (intNeg w n) k = ⊥
   OkOpd (intBig w n) k = ⊥
   OkOpd (float f n) k = ⊥
@@ -144,9 +153,9 @@ module _ (E : Frame) (cs : Cells E) where
   -- the address of a place behind a reference, or behind a slice's pointer
   abbrev Address : ℕ → List PStep → (Val → Type 0) → Type 0
   Address i [] k = ⊥
-  Address i (deref τ ∷ st) k = OnSome (valOf E cs i) (λ v. OnPtr v (λ b o. Down τ o st (λ o′. k (vptr b o′))))
+  Address i (deref τ ∷ st) k = OnSome (valOf E cs i) (λ v. Behind v τ st k)
   Address i (field n ∷ []) k = ⊥
-  Address i (field n ∷ deref τ ∷ st) k = InField i n (λ v. OnPtr v (λ b o. Down τ o st (λ o′. k (vptr b o′))))
+  Address i (field n ∷ deref τ ∷ st) k = InField i n (λ v. Behind v τ st k)
   Address i (field n ∷ field m ∷ st) k = ⊥
   Address i (field n ∷ variant m ∷ st) k = ⊥
   Address i (variant n ∷ st) k = ⊥
@@ -164,54 +173,29 @@ abbrev OnLocal : Place → (ℕ → Type 0) → Type 0
 OnLocal (place j []) k = k j
 OnLocal (place j (s ∷ st)) k = ⊥
 
-abbrev OnResult : Place → Type 0 → Type 0
-OnResult (place zero []) X = X
-OnResult (place zero (s ∷ st)) X = ⊥
-OnResult (place (suc j) st) X = ⊥
+-- what code does: it returns a value; or it calls a function, whose result is stored as a value of a type, and goes on
+pub data Course : Type 0 where
+  gives : Val → Course
+  asks : Name → List Val → Ty → (Val → Course) → Course
 
--- what is written after a `return` does not run
-abbrev OnReturn : Body → Type 0 → Type 0
-OnReturn skip X = ⊥
-OnReturn (seq skip b) X = ⊥
-OnReturn (seq (seq a a′) b) X = ⊥
-OnReturn (seq (assign p r) b) X = ⊥
-OnReturn (seq (block a) b) X = ⊥
-OnReturn (seq (loop a) b) X = ⊥
-OnReturn (seq (cond c a a′) b) X = ⊥
-OnReturn (seq (switch c arms) b) X = ⊥
-OnReturn (seq (exit n) b) X = ⊥
-OnReturn (seq return b) X = X
-OnReturn (seq (call f xs d) b) X = ⊥
-OnReturn (assign p r) X = ⊥
-OnReturn (block b) X = ⊥
-OnReturn (loop b) X = ⊥
-OnReturn (cond c a b) X = ⊥
-OnReturn (switch c arms) X = ⊥
-OnReturn (exit n) X = ⊥
-OnReturn return X = X
-OnReturn (call f xs d) X = ⊥
+abbrev OnAsks : Course → (Name → List Val → Ty → (Val → Course) → Type 0) → Type 0
+OnAsks (gives v) k = ⊥
+OnAsks (asks f us τ more) k = k f us τ more
 
-abbrev OkBody : (E : Frame) → Body → Cells E → (Name → List Val → Type 0) → Type 0
-OkBody E skip cs k = ⊥
-OkBody E (seq skip b) cs k = ⊥
-OkBody E (seq (seq a a′) b) cs k = ⊥
-OkBody E (seq (assign p r) b) cs k =
-    OnLocal p (λ j. OkRv E cs r (λ v. OnTrue (freeAt E cs j) (OnTrue (hasTy (tyAt E j) v) (OkBody E b (setAt E cs j v) k))))
-OkBody E (seq (block a) b) cs k = ⊥
-OkBody E (seq (loop a) b) cs k = ⊥
-OkBody E (seq (cond c a a′) b) cs k = ⊥
-OkBody E (seq (switch c arms) b) cs k = ⊥
-OkBody E (seq (exit n) b) cs k = ⊥
-OkBody E (seq return b) cs k = ⊥
-OkBody E (seq (call f xs d) b) cs k = OnResult d (OnReturn b (OnTrue (freeAt E cs zero) (OkOpds E cs xs (k f))))
-OkBody E (assign p r) cs k = ⊥
-OkBody E (block b) cs k = ⊥
-OkBody E (loop b) cs k = ⊥
-OkBody E (cond c a b) cs k = ⊥
-OkBody E (switch c arms) cs k = ⊥
-OkBody E (exit n) cs k = ⊥
-OkBody E return cs k = ⊥
-OkBody E (call f xs d) cs k = ⊥
+-- the code does t from here on; k is asked where it goes on behind it
+abbrev OkBody : (E : Frame) → Body → Cells E → Course → (Cells E → Course → Type 0) → Type 0
+OkBody E skip cs t k = ⊥
+OkBody E (seq a b) cs t k = OkBody E a cs t (λ cs′ t′. OkBody E b cs′ t′ k)
+OkBody E (assign p r) cs t k =
+    OnLocal p (λ j. OkRv E cs r (λ v. OnTrue (freeAt E cs j) (OnTrue (hasTy (tyAt E j) v) (k (setAt E cs j v) t))))
+OkBody E (block b) cs t k = ⊥
+OkBody E (loop b) cs t k = ⊥
+OkBody E (cond c a b) cs t k = ⊥
+OkBody E (switch c arms) cs t k = ⊥
+OkBody E (exit n) cs t k = ⊥
+OkBody E return cs t k = OnSome (valOf E cs zero) (λ v. t ≡ gives v)
+OkBody E (call f xs d) cs t k = OnLocal d (λ j. OnAsks t (λ f′ us τ more. OnTrue (freeAt E cs j) (OkOpds E cs xs (λ us′.
+    (f ≡ f′) × (us′ ≡ us) × (τ ≡ tyAt E j) × ((r : Val) → k (setAt E cs j r) (more r))))))
 
 -- ---- the frame of a function, for any blocks
 abbrev pub Blocks : List Local → Type 0
@@ -237,12 +221,18 @@ abbrev pub Entered : List (Ty × ℕ) → List Val → Type 0
 Entered [] vs = ⊥
 Entered (e ∷ E) vs = EachTyped E vs
 
-abbrev pub Forwards : Fn → List Val → Name → List Val → Type 0
-Forwards fn vs f us = (bs : Blocks (fn .locals)) →
-    OkBody (frameOf (fn .locals) bs) (fn .body) (atEntry (frameOf (fn .locals) bs) vs) (λ f′ us′. (f′ ≡ f) × (us′ ≡ us))
+-- by computation: fn called with vs does t; and all that it does is to call f with us
+abbrev pub Follows : Fn → List Val → Course → Type 0
+Follows fn vs t = (bs : Blocks (fn .locals)) →
+    OkBody (frameOf (fn .locals) bs) (fn .body) (atEntry (frameOf (fn .locals) bs) vs) t (λ cs t′. ⊥)
 
-abbrev pub Typed : Fn → Val → Type 0
-Typed fn v = (bs : Blocks (fn .locals)) → T (hasTy (getD (frameOf (fn .locals) bs) zero (tyEnum [] ttnil, zero) .0) v) × WT v
+-- the type of the result's local
+abbrev pub resultOf : List Local → Ty
+resultOf [] = tyEnum [] ttnil
+resultOf (local τ h ∷ ls) = τ
+
+abbrev pub Forwards : Fn → List Val → Name → List Val → Type 0
+Forwards fn vs f us = Follows fn vs (asks f us (resultOf (fn .locals)) gives)
 
 -- ---- the forms, taken apart with their equations
 on-some : {X : Type 0} (c : Option X) (k : X → Type 0) → OnSome c k → {G : Type 1} → ((x : X) → c ≡ some x → k x → G) → G
@@ -252,62 +242,6 @@ on-some (some x) k z g = g x refl z
 on-true : (c : Bool) (X : Type 0) → OnTrue c X → T c × X
 on-true false X z = absurd z
 on-true true X z = (tt, z)
-
-on-ptr : (v : Val) (k : ℕ → ℕ → Type 0) → OnPtr v k → {G : Type 1} → ((b o : ℕ) → v ≡ vptr b o → k b o → G) → G
-on-ptr vunit k z g = absurd z
-on-ptr (vbool b) k z g = absurd z
-on-ptr (vint w n) k z g = absurd z
-on-ptr (vfloat f x) k z g = absurd z
-on-ptr (vptr b o) k z g = g b o refl z
-on-ptr (vstruct vs) k z g = absurd z
-
-on-fields : (v : Val) (k : Vals → Type 0) → OnFields v k → {G : Type 1} → ((vs : Vals) → v ≡ vstruct vs → k vs → G) → G
-on-fields vunit k z g = absurd z
-on-fields (vbool b) k z g = absurd z
-on-fields (vint w n) k z g = absurd z
-on-fields (vfloat f x) k z g = absurd z
-on-fields (vptr b o) k z g = absurd z
-on-fields (vstruct vs) k z g = g vs refl z
-
-on-struct : (τ : Ty) (k : Sym → Tys → Type 0) → OnStruct τ k → {G : Type 1}
-    → ((ν : Sym) (τs : Tys) → τ ≡ tyStruct ν τs → k ν τs → G) → G
-on-struct (tyInt w) k z g = absurd z
-on-struct tyBool k z g = absurd z
-on-struct (tyFloat f) k z g = absurd z
-on-struct tyPtr k z g = absurd z
-on-struct (tyRef κ μ τ) k z g = absurd z
-on-struct (tyArray τ n) k z g = absurd z
-on-struct tyUnit k z g = absurd z
-on-struct (tyStruct ν τs) k z g = g ν τs refl z
-on-struct (tyEnum ν τss) k z g = absurd z
-on-struct (tyNamed h) k z g = absurd z
-
-on-result : (d : Place) (X : Type 0) → OnResult d X → (G : Place → Type 1) → (X → G (place zero [])) → G d
-on-result (place zero []) X z G g = g z
-on-result (place zero (s ∷ st)) X z G g = absurd z
-on-result (place (suc j) st) X z G g = absurd z
-
-on-return : (b : Body) (X : Type 0) → OnReturn b X → (G : Body → Type 1) → ((b : Body) → G return → G (seq return b)) → (X → G return)
-    → G b
-on-return skip X z G h g = absurd z
-on-return (seq skip b) X z G h g = absurd z
-on-return (seq (seq a a′) b) X z G h g = absurd z
-on-return (seq (assign p r) b) X z G h g = absurd z
-on-return (seq (block a) b) X z G h g = absurd z
-on-return (seq (loop a) b) X z G h g = absurd z
-on-return (seq (cond c a a′) b) X z G h g = absurd z
-on-return (seq (switch c arms) b) X z G h g = absurd z
-on-return (seq (exit n) b) X z G h g = absurd z
-on-return (seq return b) X z G h g = h b (g z)
-on-return (seq (call f xs d) b) X z G h g = absurd z
-on-return (assign p r) X z G h g = absurd z
-on-return (block b) X z G h g = absurd z
-on-return (loop b) X z G h g = absurd z
-on-return (cond c a b) X z G h g = absurd z
-on-return (switch c arms) X z G h g = absurd z
-on-return (exit n) X z G h g = absurd z
-on-return return X z G h g = g z
-on-return (call f xs d) X z G h g = absurd z
 
 -- ---- values in range
 abbrev is-some : Option Val → Type 0
@@ -342,6 +276,12 @@ val-set : (E : Frame) (cs : Cells E) (i : ℕ) (v : Val) → T (freeAt E cs i) �
 val-set [] cs i v z = absurd z
 val-set (x ∷ E) cs zero v z = refl
 val-set (x ∷ E) cs (suc i) v z = val-set E (cs .1) i v z
+
+-- what is to be had for what code does, where Q is asked of its result
+module _ {M : Type 1} (𝓤 : URA M) (H : Heap 𝓤) (C : Calls 𝓤 H) (Q : Val → SProp 𝓤) where
+  abbrev pub Does : Course → SProp 𝓤
+  Does (gives v) = Q v
+  Does (asks f us τ more) = H .⇛ (C f us (λ r. H .⇛ (guard 𝓤 (T (hasTy τ r) × WT r) (Does (more r)))))
 
 -- the local i stands at pos i in the context
 abbrev pos : ℕ → ℕ
@@ -420,16 +360,16 @@ module _ {M : Type 1} (𝓤 : URA M) (H : Heap 𝓤) (A : Atoms 𝓤) where
         field-go : (i n : ℕ) (k : Val → Type 0) → InField E cs i n k → {G : Type 1}
             → ((v : Val) → WT v → (τ : Ty) (d : ℕ) → fieldOf (tyAt E i) n ≡ some (τ, d) → ReadsAt τ (blockAt E i) (zero + d) v
             → k v → G) → G
-        field-go i n k x g = on-some (valOf E cs i) _ x
-            (λ v e x₁. on-fields v _ x₁ (λ vs ev x₂. on-struct (tyAt E i) _ x₂ (λ ν τs eτ x₃.
-            on-some (fieldAt zero τs n) _ x₃ (λ f ef x₄.
-            let is : nth 𝓤 H A (pos i) (held E cs) ≡ ‵ (fat fullShare (tyStruct ν τs) (blockAt E i) zero (vstruct vs)) =
-            at-val E cs i v e ∙ (ap (λ (u : Val). ‵ (fat fullShare (tyAt E i) (blockAt E i) zero u)) ev
-            ∙ ap (λ (τ : Ty). ‵ (fat fullShare τ (blockAt E i) zero (vstruct vs))) eτ) in
-            g (getV vs n) (wt-get vs n (subst WT ev (wt-at E cs i v ws e))) (f .0) (f .1) (ap (λ (τ : Ty). fieldOf τ n) eτ ∙ ef)
+        field-go i n k x g = on-some (valOf E cs i) _ x (λ v e x₁. on-some (fieldsOf v) _ x₁ (λ s es x₂.
+            on-some (structOf (tyAt E i)) _ x₂ (λ z ez x₃. on-some (fieldAt zero (z .1) n) _ x₃ (λ f ef x₄.
+            let whole-at : Item 𝓤 = ‵ (fat fullShare (tyStruct (z .0) (z .1)) (blockAt E i) zero (vstruct (s .0))) in
+            let is : nth 𝓤 H A (pos i) (held E cs) ≡ whole-at =
+            at-val E cs i v e ∙ (ap (λ (u : Val). ‵ (fat fullShare (tyAt E i) (blockAt E i) zero u)) (s .1)
+            ∙ ap (λ (τ : Ty). ‵ (fat fullShare τ (blockAt E i) zero (vstruct (s .0)))) (z .2)) in
+            g (getV (s .0) n) (wt-get (s .0) n (subst WT (s .1) (wt-at E cs i v ws e))) (f .0) (f .1) (ap (λ (τ : Ty). fieldOf τ n) (z .2) ∙ ef)
             (look-in ! (suc (pos i))
-            (sub ! n ef (subst (λ (j : Item 𝓤). Part (Go {0}) W j fullShare (tyStruct ν τs) (blockAt E i) zero (vstruct vs)
-            (λ u. ‵ (fat fullShare (tyStruct ν τs) (blockAt E i) zero u))) (sym is) (whole !)))) x₄))))
+            (sub ! n ef (subst (λ (j : Item 𝓤). Part (Go {0}) W j fullShare (tyStruct (z .0) (z .1)) (blockAt E i) zero (vstruct (s .0))
+            (λ u. ‵ (fat fullShare (tyStruct (z .0) (z .1)) (blockAt E i) zero u))) (sym is) (whole !)))) x₄))))
 
         place-go : (i : ℕ) (st : List PStep) (k : Val → Type 0) → AtPlace E cs i st k → {G : Type 1}
             → ((v : Val) → WT v → Opd (Go {0}) W Γ E (copy (place i st)) v → k v → G) → G
@@ -442,7 +382,7 @@ module _ {M : Type 1} (𝓤 : URA M) (H : Heap 𝓤) (A : Atoms 𝓤) where
         opd-go : (x : Operand) (k : Val → Type 0) → OkOpd E cs x k → {G : Type 1}
             → ((v : Val) → WT v → Opd (Go {0}) W Γ E x v → k v → G) → G
         opd-go (copy (place i st)) k x g = place-go i st k x g
-        opd-go (int w n) k x g = absurd x
+        opd-go (int w n) k x g = let t = on-true (ltb n (2 ^ bits w)) _ x in g (vint w n) (record { fits = lit< (t .0) }) (lit ! (t .0)) (t .1)
         opd-go (intNeg w n) k x g = absurd x
         opd-go (intBig w n) k x g = absurd x
         opd-go (float f n) k x g = absurd x
@@ -468,13 +408,13 @@ module _ {M : Type 1} (𝓤 : URA M) (H : Heap 𝓤) (A : Atoms 𝓤) where
         address-go : (i : ℕ) (st : List PStep) (k : Val → Type 0) → Address E cs i st k → {G : Type 1}
             → ((v : Val) → WT v → Rv (Go {0}) W Γ E (addrOf (place i st)) v → k v → G) → G
         address-go i [] k x g = absurd x
-        address-go i (deref τ ∷ st) k x g = on-some (valOf E cs i) _ x
-            (λ v e y. on-ptr v _ y (λ b o ev z. down-go st τ b o _ z (λ τ′ o′ w u.
-            g (vptr b o′) tt (addr ! (from ! (hop ! (reads-at i (vptr b o) (e ∙ ap some ev)) w))) u)))
+        address-go i (deref τ ∷ st) k x g = on-some (valOf E cs i) _ x (λ v e y. on-some (ptrOf v) _ y (λ a ea z.
+            down-go st τ (a .0) (a .1) _ z (λ τ′ o′ w u.
+            g (vptr (a .0) o′) tt (addr ! (from ! (hop ! (reads-at i (vptr (a .0) (a .1)) (e ∙ ap some (a .2))) w))) u)))
         address-go i (field n ∷ []) k x g = absurd x
-        address-go i (field n ∷ deref τ ∷ st) k x g = field-go i n _ x (λ v wv τ₀ d e r y. on-ptr v _ y (λ b o ev z.
-            down-go st τ b o _ z (λ τ′ o′ w u.
-            g (vptr b o′) tt (addr ! (from ! (fld ! e (hop ! (subst (λ (x : Val). ReadsAt τ₀ (blockAt E i) (zero + d) x) ev r) w)))) u)))
+        address-go i (field n ∷ deref τ ∷ st) k x g = field-go i n _ x (λ v wv τ₀ d e r y. on-some (ptrOf v) _ y (λ a ea z.
+            down-go st τ (a .0) (a .1) _ z (λ τ′ o′ w u. g (vptr (a .0) o′) tt
+            (addr ! (from ! (fld ! e (hop ! (subst (λ (x : Val). ReadsAt τ₀ (blockAt E i) (zero + d) x) (a .2) r) w)))) u)))
         address-go i (field n ∷ field m ∷ st) k x g = absurd x
         address-go i (field n ∷ variant m ∷ st) k x g = absurd x
         address-go i (variant n ∷ st) k x g = absurd x
@@ -526,83 +466,68 @@ module _ {M : Type 1} (𝓤 : URA M) (H : Heap 𝓤) (A : Atoms 𝓤) where
         let others = own (frameOf ls bs) (empty (frameOf ls bs)) in
         via 𝓤 (sep 𝓤 R (sep 𝓤 c others)) (assoc∗ 𝓤 R c others) (h (b, bs)))))
 
-    module _ (C : Calls 𝓤 H) (Λ : Loops 𝓤 H) (fm : FmC 𝓤 H (W .laws) C) (f : Name) (us : List Val) (P : SProp 𝓤) (Q : Val → SProp 𝓤)
-        (met : ent 𝓤 P (H .⇛ (C f us Q))) where
-      abbrev Fits : Frame → Type 1
-      Fits E = (v : Val) → ent 𝓤 (Q v) (H .⇛ (guard 𝓤 (T (hasTy (tyAt E zero) v) × WT v) (Q v)))
+    module _ (C : Calls 𝓤 H) (Λ : Loops 𝓤 H) (fm : FmC 𝓤 H (W .laws) C) (Q : Val → SProp 𝓤) where
+      run-go : (E : Frame) (q : Post 𝓤 H) → post 𝓤 H q returnsᴼ ≡ atReturn 𝓤 H E Q returnsᴼ → (b : Body) (cs : Cells E) → AllWT E cs
+          → (t : Course) (k : Cells E → Course → Type 0) → OkBody E b cs t k
+          → ((cs′ : Cells E) (t′ : Course) → AllWT E cs′ → k cs′ t′ → Sq W (raw (Does 𝓤 H C Q t′) ∷ held E cs′) (prop (post 𝓤 H q nextᴼ)))
+          → Sq W (raw (Does 𝓤 H C Q t) ∷ held E cs) (runs C Λ E b q)
+      run-go E q e skip cs ws t k x go = absurd x
+      run-go E q e (seq a b) cs ws t k x go = first ! $ run-go E (anyQ (afterSeq 𝓤 H (Wp 𝓤 H C Λ E b (post 𝓤 H q)) (post 𝓤 H q))) e a cs ws t _ x
+          (λ cs′ t′ ws′ y. exec ! C Λ E b q $ run-go E q e b cs′ ws′ t′ k y go)
+      run-go E q e (assign (place j []) r) cs ws t k x go = rv-go (raw (Does 𝓤 H C Q t)) E cs ws r _ x (λ v w value y.
+          let free-j = on-true (freeAt E cs j) _ y in
+          let typed = on-true (hasTy (tyAt E j) v) _ (free-j .1) in
+          assigns-last ! value (from ! (stop !)) (init ! (suc (pos j)) (at-free E cs j (free-j .0)) (typed .0, w)) $
+          recontext (ap (λ (Δ : List (Item 𝓤)). raw (Does 𝓤 H C Q t) ∷ Δ) (put-val E cs j v))
+          (go (setAt E cs j v) t (wt-set E cs j v ws w) (typed .1)))
+      run-go E q e (assign (place j (z ∷ st)) r) cs ws t k x go = absurd x
+      run-go E q e (block b) cs ws t k x go = absurd x
+      run-go E q e (loop b) cs ws t k x go = absurd x
+      run-go E q e (cond c a b) cs ws t k x go = absurd x
+      run-go E q e (switch c arms) cs ws t k x go = absurd x
+      run-go E q e (exit n) cs ws t k x go = absurd x
+      run-go E q e return cs ws t k x go = on-some (valOf E cs zero) _ x (λ v ev y.
+          subst (λ (t′ : Course). Sq W (raw (Does 𝓤 H C Q t′) ∷ held E cs) (runs C Λ E return q)) (sym y) (
+          returns-within ! Q e (reads-at (raw (Q v)) E cs zero v ev) $
+          by ! (via 𝓤 (sep 𝓤 (Q v) (⋆ 𝓤 H A (held E cs))) (pop 𝓤 H A (raw (Q v)) (held E cs))
+          (via 𝓤 (sep 𝓤 (Q v) (own E cs)) (monoR 𝓤 (Q v) (from-held E cs)) (free E cs (Q v))))))
+      run-go E q e (call g xs (place j (z ∷ st))) cs ws t k x go = absurd x
+      run-go E q e (call g xs (place j [])) cs ws (gives v) k x go = absurd x
+      run-go E q e (call g xs (place j [])) cs ws (asks f us τ more) k x go =
+          let K : Val → SProp 𝓤 = λ r. H .⇛ (guard 𝓤 (T (hasTy τ r) × WT r) (Does 𝓤 H C Q (more r))) in
+          let free-j = on-true (freeAt E cs j) _ x in
+          use1 W (later (raw (C f us K))) (id⊢ 𝓤 _) $ await ! tt $
+          opds-go (raw (C f us K)) E cs ws xs _ (free-j .1) (λ vs _ reads y.
+          let at : ent 𝓤 (C f us K) (C g vs K) = subst (λ (h : Name). ent 𝓤 (C f us K) (C h vs K)) (sym (y .0))
+          (subst (λ (ys : List Val). ent 𝓤 (C f us K) (C f ys K)) (sym (y .1)) (id⊢ 𝓤 (C f us K))) in
+          calls-from-last ! fm (raw (C f us K)) vs K at reads (λ r.
+          use1 W (later (given (T (hasTy τ r) × WT r) (raw (Does 𝓤 H C Q (more r))))) (id⊢ 𝓤 _) $ await ! tt $ learn ! (λ ok.
+          land-last ! (from ! (stop !)) (init ! (suc (pos j)) (at-free E cs j (free-j .0))
+          (subst (λ (σ : Ty). T (hasTy σ r) × WT r) (y .2) ok)) $
+          recontext (ap (λ (Δ : List (Item 𝓤)). raw (Does 𝓤 H C Q (more r)) ∷ Δ) (put-val E cs j r))
+          (go (setAt E cs j r) (more r) (wt-set E cs j r ws (ok .1)) (y .3 r)))))
 
-      abbrev Calls-it : Name → List Val → Type 0
-      Calls-it f′ us′ = (f′ ≡ f) × (us′ ≡ us)
-
-      -- the call, and the return of its result
-      call-go : (E : Frame) (cs : Cells E) → AllWT E cs → Fits E → T (freeAt E cs zero) → (g : Name) (xs : List Operand)
-          → OkOpds E cs xs (Calls-it g)
-          → Sq W (raw P ∷ held E cs) (runs C Λ E (seq (call g xs (place zero [])) return) (atRet E Q))
-      call-go E cs ws fits room g xs x =
-          let here : ent 𝓤 P (H .⇛ (C f us Q)) = met in
-          use1 W (later (raw (C f us Q))) here $ await ! tt $
-          opds-go (raw (C f us Q)) E cs ws xs (Calls-it g) x (λ vs _ reads e.
-          let at : ent 𝓤 (C f us Q) (C g vs Q) =
-          subst (λ (h : Name). ent 𝓤 (C f us Q) (C h vs Q)) (sym (e .0))
-          (subst (λ (ys : List Val). ent 𝓤 (C f us Q) (C f ys Q)) (sym (e .1)) (id⊢ 𝓤 (C f us Q))) in
-          calls-from ! fm (raw (C f us Q)) vs Q at reads (λ r.
-          use1 W (later (given (T (hasTy (tyAt E zero) r) × WT r) (raw (Q r)))) (fits r) $ await ! tt $ learn ! (λ ok.
-          land ! (from ! (stop !)) (init ! (suc (pos zero)) (at-free E cs zero room) ok) $
-          recontext (ap (λ (Δ : List (Item 𝓤)). raw (Q r) ∷ Δ) (put-val E cs zero r)) (
-          let cs′ : Cells E = setAt E cs zero r in
-          returns ! (reads-at (raw (Q r)) E cs′ zero r (val-set E cs zero r room)) $
-          by ! (via 𝓤 (sep 𝓤 (Q r) (⋆ 𝓤 H A (held E cs′))) (pop 𝓤 H A (raw (Q r)) (held E cs′))
-          (via 𝓤 (sep 𝓤 (Q r) (own E cs′)) (monoR 𝓤 (Q r) (from-held E cs′)) (free E cs′ (Q r))))))))
-
-      run-go : (E : Frame) → Fits E → (b : Body) (cs : Cells E) → AllWT E cs → OkBody E b cs Calls-it
-          → Sq W (raw P ∷ held E cs) (runs C Λ E b (atRet E Q))
-      run-go E fits skip cs ws x = absurd x
-      run-go E fits (seq skip b) cs ws x = absurd x
-      run-go E fits (seq (seq a a′) b) cs ws x = absurd x
-      run-go E fits (seq (assign (place j []) r) b) cs ws x = rv-go (raw P) E cs ws r _ x (λ v w value y.
-          let t = on-true (freeAt E cs j) _ y in
-          let s = on-true (hasTy (tyAt E j) v) _ (t .1) in
-          assigns ! value (from ! (stop !)) (init ! (suc (pos j)) (at-free E cs j (t .0)) (s .0, w)) $
-          recontext (ap (λ (Δ : List (Item 𝓤)). raw P ∷ Δ) (put-val E cs j v))
-          (run-go E fits b (setAt E cs j v) (wt-set E cs j v ws w) (s .1)))
-      run-go E fits (seq (assign (place j (z ∷ st)) r) b) cs ws x = absurd x
-      run-go E fits (seq (block a) b) cs ws x = absurd x
-      run-go E fits (seq (loop a) b) cs ws x = absurd x
-      run-go E fits (seq (cond c a a′) b) cs ws x = absurd x
-      run-go E fits (seq (switch c arms) b) cs ws x = absurd x
-      run-go E fits (seq (exit n) b) cs ws x = absurd x
-      run-go E fits (seq return b) cs ws x = absurd x
-      run-go E fits (seq (call g xs d) b) cs ws x =
-          on-result d _ x (λ p. Sq W (raw P ∷ held E cs) (runs C Λ E (seq (call g xs p) b) (atRet E Q))) (λ y.
-          on-return b _ y (λ e. Sq W (raw P ∷ held E cs) (runs C Λ E (seq (call g xs (place zero [])) e) (atRet E Q)))
-          (λ e s. record { prf = s .prf }) (λ z.
-          let t = on-true (freeAt E cs zero) _ z in call-go E cs ws fits (t .0) g xs (t .1)))
-      run-go E fits (assign p r) cs ws x = absurd x
-      run-go E fits (block b) cs ws x = absurd x
-      run-go E fits (loop b) cs ws x = absurd x
-      run-go E fits (cond c a b) cs ws x = absurd x
-      run-go E fits (switch c arms) cs ws x = absurd x
-      run-go E fits (exit n) cs ws x = absurd x
-      run-go E fits return cs ws x = absurd x
-      run-go E fits (call g xs d) cs ws x = absurd x
-
-      frame-go : (E : Frame) (b : Body) (vs : List Val) → Fits E → Entered E vs → OkBody E b (atEntry E vs) Calls-it
-          → ent 𝓤 (sep 𝓤 P (own E (empty E))) (params 𝓤 H E vs (Wp 𝓤 H C Λ E b (atReturn 𝓤 H E Q)))
-      frame-go [] b vs fits ok x = absurd ok
-      frame-go (e ∷ E) b vs fits ok x =
+      frame-go : (E : Frame) (b : Body) (vs : List Val) (t : Course) → Entered E vs → OkBody E b (atEntry E vs) t (λ cs t′. ⊥)
+          → ent 𝓤 (sep 𝓤 (Does 𝓤 H C Q t) (own E (empty E))) (params 𝓤 H E vs (Wp 𝓤 H C Λ E b (atReturn 𝓤 H E Q)))
+      frame-go [] b vs t ok x = absurd ok
+      frame-go (e ∷ E) b vs t ok x =
+          let P = Does 𝓤 H C Q t in
           let r = sep 𝓤 (H .room (e .0) (e .1) zero) (H .dies (e .0) (e .1)) in
           let G = Wp 𝓤 H C Λ (e ∷ E) b (atReturn 𝓤 H (e ∷ E) Q) in
           let cs : Cells (e ∷ E) = (none, passedIn E vs) in
           via 𝓤 (sep 𝓤 (sep 𝓤 P r) (own E (empty E))) (assoc′ 𝓤 P r (own E (empty E)))
           (store-all E vs ok (sep 𝓤 P r) G (via 𝓤 (sep 𝓤 P (own (e ∷ E) cs)) (assoc∗ 𝓤 P r (own E (passedIn E vs)))
           (via 𝓤 (sep 𝓤 P (⋆ 𝓤 H A (held (e ∷ E) cs))) (monoR 𝓤 P (to-held (e ∷ E) cs))
-          (run-go (e ∷ E) fits b cs (tt, wt-passed E vs ok) x .prf))))
+          (run-go (e ∷ E) (atRet (e ∷ E) Q) refl b cs (tt, wt-passed E vs ok) t _ x (λ cs′ t′ ws′ z. absurd z) .prf))))
 
-      -- fn called with vs calls f with us, and its result is one of fn's result type
-      pub forward : (fn : Fn) (vs : List Val) → Forwards fn vs f us → ((bs : Blocks (fn .locals)) → Entered (frameOf (fn .locals) bs) vs)
-          → ((bs : Blocks (fn .locals)) (v : Val) → ent 𝓤 (Q v) (H .⇛ (guard 𝓤
-          (T (hasTy (getD (frameOf (fn .locals) bs) zero (tyEnum [] ttnil, zero) .0) v) × WT v) (Q v))))
-          → ent 𝓤 P (WpFn 𝓤 H C Λ fn vs Q)
+      pub follow : (fn : Fn) (vs : List Val) (t : Course) → Follows fn vs t → ((bs : Blocks (fn .locals)) → Entered (frameOf (fn .locals) bs) vs)
+          → ent 𝓤 (Does 𝓤 H C Q t) (WpFn 𝓤 H C Λ fn vs Q)
       unfolding WpFn
-      forward fn vs ok entered fits = make-all (fn .locals) P (λ E. params 𝓤 H E vs (Wp 𝓤 H C Λ E (fn .body) (atReturn 𝓤 H E Q)))
-          (λ bs. frame-go (frameOf (fn .locals) bs) (fn .body) vs (fits bs) (entered bs) (ok bs))
+      follow fn vs t ok entered = make-all (fn .locals) (Does 𝓤 H C Q t) (λ E. params 𝓤 H E vs (Wp 𝓤 H C Λ E (fn .body) (atReturn 𝓤 H E Q)))
+          (λ bs. frame-go (frameOf (fn .locals) bs) (fn .body) vs t (entered bs) (ok bs))
+
+      -- one call, whose result is one of a type
+      pub once : (f : Name) (us : List Val) (τ : Ty) → ((v : Val) → ent 𝓤 (Q v) (H .⇛ (guard 𝓤 (T (hasTy τ v) × WT v) (Q v))))
+          → ent 𝓤 (H .⇛ (C f us Q)) (Does 𝓤 H C Q (asks f us τ gives))
+      once f us τ fits = qed W (later (raw (C f us Q)) ∷ []) ∵ updating ! $ await ! tt $ at-once ! $
+          by ! (via 𝓤 _ (pop 𝓤 H A (raw (C f us Q)) []) (fm f us Q _ (⋆ 𝓤 H A []) (λ r. via 𝓤 (Q r) (fst∗ 𝓤 (Q r) (⋆ 𝓤 H A [])) (fits r))))

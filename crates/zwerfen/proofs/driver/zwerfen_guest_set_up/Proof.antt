@@ -12,5 +12,5 @@ zwerfen-guest-set-up-spec 𝓤 H 𝓜 𝓖 𝓡 =
     call.signature (call.spec 𝓤 H (𝓖 .A) (𝓜 .mem) (𝓡 .run)) f.Code.env f.Key.name f.Code.function (f.Code.unfolded 𝓤 H 𝓜 𝓡)
     call.Symbol.name call.Symbol.routine f.Code.calls-frontend·set-up (call.Met.met 𝓤 H 𝓜 𝓖 𝓡)
     (λ κs. tt) (λ κs. a-unit) (λ κs. refl) (λ κs. refl)
-    (λ 𝓣 κs x b o bs. (refl, refl))
+    (λ 𝓣 κs x b o bs. (refl, refl, refl, λ r. refl))
     (λ 𝓣 known κs qs ref x us g ν γs. known (passing (partsOf guest) (valuesOf guest) κs qs ref x us ν γs, g))

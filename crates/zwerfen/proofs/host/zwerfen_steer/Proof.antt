@@ -22,7 +22,7 @@ zwerfen-steer-spec 𝓤 H 𝓜 𝓖 𝓡 =
       (a-mut (named 2) (κt .0) u32, (a-mut (named 3) (κt .1 .0) u32, (a-mut (named 4) (κt .1 .1 .0) u32, tt))),
     ))
     (looks interface 𝓤 H (𝓖 .A) (givenOf 𝓤 H 𝓜 𝓖) steering) (f.clauses 𝓤 H (𝓖 .A) (𝓜 .mem) (𝓡 .run))
-    (tyInt w32) (λ κs. a-number w32) (λ κs. refl) (λ κs. refl) (λ κs x b o bs. (refl, refl))
+    (tyInt w32) (λ κs. a-number w32) (λ κs. refl) (λ κs. refl) (λ κs x b o bs. (refl, refl, refl, λ r. refl))
     (λ κs qs ref x us g ν γs.
     let p = passing (sift steering (partsOf interface)) (λ i. sifted steering (partsOf interface) (valuesOf interface i)) κs qs ref x us ν γs in
     asking 𝓤 (Good (stateOf (ref .now))) (GoodSettings (stateOf (ref .now) .settings))
