@@ -1,14 +1,8 @@
-// What more than one test program does: the end of a packet's line, and the calls of the host's interface with their lines.
-mod host;
-
-use cases::print_form;
-pub use host::event;
-pub use host::first_interface;
-pub use host::recount;
-pub use host::set_up;
+// The end of a packet's line, which more than one test program prints.
+use case_tools::print_form;
 use steering::Steered;
 
-// The end of a line: the type and hash of a packet, where it has them, and its queue.
+// The type and hash of a packet, where it has them, and its queue.
 pub fn print_steered(steered: Steered) {
     match steered {
         Steered::NoType { queue } => print_form(b"no type queue #\n", &[queue as u64]),

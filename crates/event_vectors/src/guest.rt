@@ -1,7 +1,7 @@
 // What the guest does to the page between the calls.
 ghost use Rattle.octets.specs.Prelude.{_≡_, length};
-use cases::fill;
-use cases::patch;
+use case_tools::fill;
+use case_tools::patch;
 use cases::print_cut;
 use page::AREA;
 use page::REQ_CONS;

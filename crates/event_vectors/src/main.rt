@@ -5,13 +5,11 @@ ghost use Rattle.interface.specs.States.{Good, stateOf};
 
 mod guest;
 
-use answer_text::event;
-use answer_text::first_interface;
 use answer_text::print_steered;
-use answer_text::recount;
-use answer_text::set_up;
+use case_tools::BUFFER;
 use cases::PARTS;
 use cases::take_case;
+use host_cases::first_interface;
 use interface::ENTRY_COUNT;
 use interface::FLAGS;
 use interface::Interface;
@@ -27,7 +25,7 @@ const COUNTS: u8 = 7;
 
 fn main() {
     let mut buffer = io::large_buffer();
-    let mut page = cases::blank();
+    let mut page = [0u8; BUFFER];
     let mut i = first_interface();
     for part in 0..PARTS {
         // A file that is not there has no case.
@@ -59,15 +57,15 @@ fn answer(i: Interface, page: &mut [u8], kind: u8, body: &[u8]) -> Interface
     ensures { λ r. ⌜ Good (stateOf r) ⌝ }
 {
     match kind {
-        SET_UP => set_up(i, body),
-        EVENT => event(i, page, body),
+        SET_UP => host_cases::set_up(i, body),
+        EVENT => host_cases::event(i, page, body),
         PACKET => {
             packet(i, body);
             i
         }
         COUNTS => {
             guest::empty_areas(page, body);
-            recount(i, &page[..])
+            host_cases::recount(i, &page[..])
         }
         _ => {
             guest::act(page, kind, body);

@@ -3,24 +3,32 @@
 ghost use Rattle.octets.specs.Prelude.{_≡_, length};
 ghost use Rattle.interface.specs.States.{Good, stateOf};
 ghost use Rattle.guest_steps.specs.Guest.{Good as GoodGuest, stateOf as guestOf};
-
-mod guest;
-
-use answer_text::event;
-use answer_text::first_interface;
-use answer_text::recount;
-use answer_text::set_up;
+use case_tools::BUFFER;
+use case_tools::fill;
+use case_tools::patch;
+use case_tools::print_word;
 use cases::PARTS;
 use cases::take_case;
-use guest::COUNTS;
-use guest::new_guest;
+use guest_cases::EVENT;
+use guest_cases::START_GET_FLAGS;
+use guest_cases::new_guest;
 use guest_steps::Guest;
+use host_cases::first_interface;
 use interface::Interface;
 
-// The kinds of the host; the others are the guest's, and that of other counts is both ends'.
-const SET_UP: u8 = 7;
+// The kinds: a new guest, and behind the guest's calls other counts in the page, which both ends take their own from, the
+// host's two calls, and octets put into the buffer.
+const GUEST_SET_UP: u8 = 0;
 
-const EVENT: u8 = 8;
+const COUNTS: u8 = 6;
+
+const HOST_SET_UP: u8 = 7;
+
+const HOST_EVENT: u8 = 8;
+
+const PATCH: u8 = 9;
+
+const FILL: u8 = 10;
 
 // Both ends of the ring.
 struct Ends {
@@ -30,7 +38,7 @@ struct Ends {
 
 fn main() {
     let mut buffer = io::large_buffer();
-    let mut page = cases::blank();
+    let mut page = [0u8; BUFFER];
     let mut ends = Ends {
         guest: new_guest(),
         interface: first_interface(),
@@ -56,11 +64,37 @@ fn run(first: Ends, page: &mut [u8], cases: &[u8]) -> Ends
         let start = taken.start;
         let end = taken.end;
         let body = &cases[start..end];
-        guest = guest::answer(guest, page, kind, body);
+        guest = answer_guest(guest, page, kind, body);
         interface = answer_host(interface, page, kind, body);
         at = end;
     }
     Ends { guest, interface }
+}
+
+fn answer_guest(g: Guest, page: &mut [u8], kind: u8, body: &[u8]) -> Guest
+    requires { ⌜ GoodGuest (guestOf g) × (length (now page) ≡ 4160) ⌝ }
+    ensures { λ r. ⌜ GoodGuest (guestOf r) ⌝ }
+{
+    match kind {
+        GUEST_SET_UP => {
+            print_word(b"guest set up\n");
+            new_guest()
+        }
+        START_GET_FLAGS..=EVENT => guest_cases::call(g, page, kind, body),
+        COUNTS => {
+            patch(page, body);
+            guest_cases::recount(g, &page[..])
+        }
+        PATCH => {
+            patch(page, body);
+            g
+        }
+        FILL => {
+            fill(page, body);
+            g
+        }
+        _ => g,
+    }
 }
 
 // The host's part in a case, which comes after the guest's.
@@ -69,9 +103,9 @@ fn answer_host(i: Interface, page: &mut [u8], kind: u8, body: &[u8]) -> Interfac
     ensures { λ r. ⌜ Good (stateOf r) ⌝ }
 {
     match kind {
-        SET_UP => set_up(i, body),
-        EVENT => event(i, page, body),
-        COUNTS => recount(i, &page[..]),
+        HOST_SET_UP => host_cases::set_up(i, body),
+        HOST_EVENT => host_cases::event(i, page, body),
+        COUNTS => host_cases::recount(i, &page[..]),
         _ => i,
     }
 }

@@ -1,9 +1,8 @@
 // Runs the cases of its files, one file after the other, and prints a line for each answer. A case's body is the length
 // of its first part, an octet, and then its two parts.
-use cases::Case;
 use cases::PARTS;
-use cases::case_at;
 use cases::print_cut;
+use cases::take_case;
 use cases::wide;
 
 // The kinds: a hash call on a key and an input, a two-way call on a key and a hash type of one octet, and
@@ -17,10 +16,8 @@ const HASH_PROGRAM: u8 = 2;
 fn main() {
     let mut buffer = io::large_buffer();
     for part in 0..PARTS {
+        // A file that is not there has no case.
         let n = cases::load_part(part, &mut buffer);
-        if n == 0 {
-            return;
-        }
         run(&buffer[..n]);
     }
 }
@@ -28,17 +25,11 @@ fn main() {
 fn run(cases: &[u8]) {
     let mut at: usize = 0;
     while at < cases.len() {
-        let case = case_at(cases, at);
-        match case {
-            Case::Body { start, end } => {
-                split(cases[at], &cases[start..end]);
-                at = end;
-            }
-            Case::Cut => {
-                print_cut();
-                return;
-            }
-        }
+        let taken = take_case(cases, at);
+        let start = taken.start;
+        let end = taken.end;
+        split(taken.kind, &cases[start..end]);
+        at = end;
     }
 }
 

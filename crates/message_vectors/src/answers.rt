@@ -1,9 +1,9 @@
 // The lines that the program prints.
 use crate::Settings;
-use cases::digest;
-use cases::print_form;
-use cases::print_number;
-use cases::print_word;
+use case_tools::digest;
+use case_tools::print_form;
+use case_tools::print_number;
+use case_tools::print_word;
 use cases::wide;
 use guest_messages::AckAnswer;
 use guest_messages::BUFFER_TOO_SHORT;

@@ -1,16 +1,16 @@
 // Runs the cases of its files, one file after the other, and prints a line for each. Cases of requests act on the settings of
 // one interface, one after the other.
-ghost use Rattle.octets.specs.Prelude.{_≤_, length};
 
 mod answers;
 
 use answers::print_ack_answer;
 use answers::print_carried;
 use answers::print_written;
-use cases::MAX_GIVEN;
+use case_tools::MAX_GIVEN;
+use case_tools::entries_in;
 use cases::PARTS;
-use cases::entries_in;
-use cases::number_at;
+use cases::keep;
+use cases::number_up_to;
 use cases::print_cut;
 use cases::take_case;
 use guest_messages::Written;
@@ -100,23 +100,12 @@ fn request(settings: Settings, body: &[u8]) -> Settings {
     if body.len() < 8 {
         return settings;
     }
-    if body.len() - 8 > MAX_PAYLOAD {
-        return settings;
-    }
     let kind = octets::read_u32(body, 0);
     let size = octets::read_u32(body, 4);
-    let payload = payload_of(&body[8..]);
-    carry_out(settings, kind, size, &payload)
-}
-
-// What stands behind the payload in the buffer is not to be looked at.
-fn payload_of(kept: &[u8]) -> [u8; MAX_PAYLOAD]
-    requires { ⌜ length (now kept) ≤ 1024 ⌝ }
-{
+    // What stands behind the payload in the buffer is not to be looked at.
     let mut payload = [238; MAX_PAYLOAD];
-    let n = kept.len();
-    octets::copy(&mut payload[0..n], kept);
-    payload
+    keep(&mut payload, &body[8..]);
+    carry_out(settings, kind, size, &payload)
 }
 
 fn carry_out(settings: Settings, kind: u32, size: u32, payload: &[u8; MAX_PAYLOAD]) -> Settings {
@@ -152,11 +141,7 @@ fn write(kind: u8, body: &[u8]) {
         print_cut();
         return;
     }
-    let room = number_at(body, 0);
-    if room > MAX_BUFFER {
-        print_cut();
-        return;
-    }
+    let room = number_up_to(MAX_BUFFER, body);
     let mut buffer = [165; MAX_BUFFER];
     write_and_print(&mut buffer[0..room], kind, &body[2..]);
 }
@@ -187,7 +172,7 @@ fn write_mapping(buffer: &mut [u8], given: &[u8]) -> Written {
     if count > MAX_GIVEN {
         return Written::Value;
     }
-    let entries = entries_in(given, count);
+    let entries = entries_in(given, 0, count);
     guest_messages::write_set_mapping(buffer, &entries[0..count])
 }
 

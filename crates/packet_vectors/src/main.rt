@@ -2,20 +2,21 @@
 // goes under the settings before it.
 ghost use Rattle.octets.specs.Prelude.{_≤_, length};
 use answer_text::print_steered;
-use cases::Case;
+use case_tools::print_number;
+use case_tools::print_word;
 use cases::PARTS;
-use cases::case_at;
 use cases::keep;
 use cases::print_cut;
-use cases::print_number;
-use cases::print_word;
+use cases::take_case;
 use packet::Found;
 use packet::IPV4;
 use packet::IPV4_TCP;
 use packet::IPV6;
 
-// The kinds: settings for the packets behind them; any other is a packet.
+// The kinds: settings for the packets behind them, and a packet.
 const SETTINGS: u8 = 0;
+
+const PACKET: u8 = 1;
 
 // Where in the settings the key and the table stand, behind the flags.
 const KEY_AT: usize = 1;
@@ -30,10 +31,8 @@ fn main() {
     let mut settings = [0u8; MOST];
     let mut kept: usize = 0;
     for part in 0..PARTS {
+        // A file that is not there has no case.
         let n = cases::load_part(part, &mut buffer);
-        if n == 0 {
-            return;
-        }
         kept = run(&buffer[..n], &mut settings, kept);
     }
 }
@@ -47,17 +46,11 @@ fn run(cases: &[u8], settings: &mut [u8], before: usize) -> usize
     let mut kept = before;
     let mut at: usize = 0;
     while at < cases.len() {
-        let case = case_at(cases, at);
-        match case {
-            Case::Body { start, end } => {
-                kept = act(settings, kept, cases[at], &cases[start..end]);
-                at = end;
-            }
-            Case::Cut => {
-                print_cut();
-                return kept;
-            }
-        }
+        let taken = take_case(cases, at);
+        let start = taken.start;
+        let end = taken.end;
+        kept = act(settings, kept, taken.kind, &cases[start..end]);
+        at = end;
     }
     kept
 }
@@ -70,7 +63,9 @@ fn act(settings: &mut [u8], kept: usize, kind: u8, body: &[u8]) -> usize
     if kind == SETTINGS {
         return keep(settings, body);
     }
-    answer(&settings[0..kept], body);
+    if kind == PACKET {
+        answer(&settings[0..kept], body);
+    }
     kept
 }
 

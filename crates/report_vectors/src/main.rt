@@ -2,11 +2,10 @@
 // kept for the cases behind them.
 ghost use Rattle.octets.specs.Prelude.{length};
 ghost use Rattle.report_vectors.specs.Keeping.{Fits};
-use cases::Case;
 use cases::PARTS;
-use cases::case_at;
 use cases::keep;
 use cases::print_cut;
+use cases::take_case;
 
 // The kinds: a settings file, a capture with its report, every cut of the capture, every cut of the settings, and
 // both with zeros behind them.
@@ -41,10 +40,8 @@ fn main() {
         captured: 0,
     };
     for part in 0..PARTS {
+        // A file that is not there has no case.
         let n = cases::load_part(part, &mut buffer);
-        if n == 0 {
-            return;
-        }
         kept = run(&buffer[..n], &mut settings, &mut captured, kept);
     }
 }
@@ -57,17 +54,11 @@ fn run(cases: &[u8], settings: &mut [u8], captured: &mut [u8], before: Kept) -> 
     let mut kept = before;
     let mut at: usize = 0;
     while at < cases.len() {
-        let case = case_at(cases, at);
-        match case {
-            Case::Body { start, end } => {
-                kept = act(settings, captured, kept, cases[at], &cases[start..end]);
-                at = end;
-            }
-            Case::Cut => {
-                print_cut();
-                return kept;
-            }
-        }
+        let taken = take_case(cases, at);
+        let start = taken.start;
+        let end = taken.end;
+        kept = act(settings, captured, kept, taken.kind, &cases[start..end]);
+        at = end;
     }
     kept
 }
