@@ -272,11 +272,6 @@ wt-passed [] vs x = tt
 wt-passed (e ∷ E) [] x = (tt, wt-empty E)
 wt-passed (e ∷ E) (v ∷ vs) x = (x .0 .1, wt-passed E vs (x .1))
 
-val-set : (E : Frame) (cs : Cells E) (i : ℕ) (v : Val) → T (freeAt E cs i) → valOf E (setAt E cs i v) i ≡ some v
-val-set [] cs i v z = absurd z
-val-set (x ∷ E) cs zero v z = refl
-val-set (x ∷ E) cs (suc i) v z = val-set E (cs .1) i v z
-
 -- what is to be had for what code does, where Q is asked of its result
 module _ {M : Type 1} (𝓤 : URA M) (H : Heap 𝓤) (C : Calls 𝓤 H) (Q : Val → SProp 𝓤) where
   abbrev pub Does : Course → SProp 𝓤

@@ -1,6 +1,6 @@
 -- A struct whose fields are numbers and arrays of numbers is its fields in memory, side by side, and back: once, over any such
 -- struct that is declared. `Lending.antt` takes it so behind a `&mut`, and `Looking.antt` some of its fields behind a `&`.
---     part, octets, words        a part by its type and its place; arrays of octets and of 64-bit numbers
+--     part                       a part by its type and its place
 --     members, fieldsIn, Again, together    a struct's fields as the logic has them in memory, and the way back
 --     Simple F, number, array    a field whose values are the part's as they stand, and the two kinds of those
 --     Flat                       a struct of simple fields, by what is declared of it
@@ -9,23 +9,17 @@
 --     sift, sifted, looks        a share of it holds that share of the parts that a row of `true` and `false` chooses, in their order
 -- It names no struct and no function of any crate. Assumes `Given`.
 use Rattle.lending.proofs.Walks.{_≡_, PathP, refl, sym, ap, subst, _∙_, ℕ, _+_, Bool, true, false, List, [], _∷_, map-id, URA, fullShare}
-use Rattle.lending.proofs.Walks.{Width, w8, w64, SProp, ent, sep, wand, via, comm∗, wandE, allE, Fml, Share, fsep, ftrue, size, align, up}
-use Rattle.lending.proofs.Walks.{Heap, Atoms, sem, Given, ‵, raw, _⊛_, _$_, _∵_, !, qed, move, keep, use1, use2, split, fsplit, fjoin, assume}
-use Rattle.lending.proofs.Walks.{frame, done, RattleType, Denots, Is, Lawfuls, shows, partAt, partOf, lone, part-halves, UInt, Array, nothing}
-use Rattle.lending.proofs.Walks.{Field, rows, uint-field, array-field, Held, intos, Record, Propositions, declared, Declared, row, Struct}
-use Rattle.lending.proofs.Walks.{Member, rowOf, rowsOf, partsAt, shapeOf, PartsBack, struct-parts}
+use Rattle.lending.proofs.Walks.{Width, SProp, ent, sep, wand, via, comm∗, wandE, allE, Fml, Share, fsep, ftrue, size, align, up, Heap, Atoms}
+use Rattle.lending.proofs.Walks.{sem, Given, ‵, raw, _⊛_, _$_, _∵_, !, qed, move, keep, use1, use2, split, fsplit, fjoin, assume, frame, done}
+use Rattle.lending.proofs.Walks.{RattleType, Denots, Is, Lawfuls, shows, partAt, partOf, lone, part-halves, nothing, Field, rows, uint-field}
+use Rattle.lending.proofs.Walks.{array-field, Held, intos, Record, Propositions, declared, Declared, row, Struct, Member, rowOf, rowsOf}
+use Rattle.lending.proofs.Walks.{partsAt, shapeOf, PartsBack, struct-parts}
 use denote.Struct.Laws as LL
 use Rattle.lending.proofs.Lending.{Part, Values, lie, Opens}
 use Rattle.lending.proofs.Looking.{Looks}
 
 abbrev pub part : RattleType → (ℕ → ℕ) → Part
 part R at = record { row = R; at = at }
-
-abbrev pub octets : ℕ → RattleType
-octets n = Array (UInt w8) n
-
-abbrev pub words : ℕ → RattleType
-words n = Array (UInt w64) n
 
 -- ---- a struct's fields as the logic has them, and in memory
 abbrev pub member : Field → Member

@@ -11,7 +11,7 @@ pub use mir.Fields.{getV}
 pub use mir.Syntax.{Name, Ty, Local, local, Fn, return, named, w32, w64, Sym, Tys, tyInt, tyBool, tyFloat, tyPtr, tyRef, tyArray, tyUnit, tyStruct}
 pub use mir.Syntax.{tyEnum, tyNamed, ttnil, Step as PStep, deref, field, variant, Place, place, Opd as Operand, copy, int, intNeg, intBig, float}
 pub use mir.Syntax.{opdTrue, opdFalse, opdUnit, ptrConst, Rv as RValue, rvOpd, op2, op1, addrOf, aggregate, repeat, Body, skip, seq, assign, block}
-pub use mir.Syntax.{loop, cond, switch, exit, call, Lifetime, Width, w8, erased}
+pub use mir.Syntax.{loop, cond, switch, exit, call, Lifetime, Width, erased}
 pub use mir.Val.{Val, vptr, WT, hasTy, vunit, vbool, vint, vfloat, vstruct, vnil, vcons, ofList, WTs, bits, bytes}
 pub use base.Fml.{Lft, Share, Fml, fat, froom, fdies, GName, ftrue, fsep, fdead, flft, flent, fres, fobs, fauth, fobor}
 pub use base.Logic.{SProp, ent, sep, id⊢, via, monoR, guardI, emp, guard, comm∗, assoc∗, assoc′, emp∗, fst∗, wandI, allI, ex, wand, monoL, apply∗}
@@ -36,7 +36,6 @@ pub use types.Run.{Reads, Walks, Opd, Opds, Rv, look, init, stop, hop, fld, from
 pub use types.Run.{land-last, returns-within, lit}
 pub use types.Tokens.{lft-new, lft-end, lent-back, shr-bor-open, obor-close}
 pub use sound.WpLaws.{fmOf, FmC}
-pub use denote.Array.{Array}
 pub use denote.Builtin.{u8, u32, u64, usize}
 pub use denote.Exit.{yes}
 pub use denote.Laws.{Typed, Is, valss, shows, Are, Ises, Spells, Tellss, Tells, Lawfuls}
