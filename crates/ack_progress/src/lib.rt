@@ -10,7 +10,6 @@ use guest_steps::Sight;
 use messages::FIELD;
 use messages::HEADER;
 use messages::MAX_ACK;
-use messages::SIZE_AT;
 
 // Octets of a header, as the octets taken of a message are counted, and the two sizes that an ack can have.
 const HEADER_OCTETS: u64 = HEADER as u64;
@@ -26,7 +25,7 @@ pub fn look(kind: u32, header: &[u8; HEADER], payload: &[u8; MAX_ACK_PAYLOAD], t
     if taken < HEADER_OCTETS {
         return Sight::Partly;
     }
-    let size = octets::read_u32(header, SIZE_AT);
+    let size = octets::read_u32(header, messages::SIZE_AT);
     if size != STATUS_ALONE {
         if size != WITH_FLAGS {
             return Sight::Refused;

@@ -12,8 +12,6 @@ use messages::GET_FLAGS;
 use messages::HEADER;
 use messages::NOT_SUPPORTED;
 use messages::SET_MAPPING;
-use messages::SIZE_AT;
-use messages::SUCCESS;
 
 // Reads the ack to a request of type `kind`.
 pub fn read_ack(kind: u32, message: &[u8]) -> AckAnswer
@@ -25,7 +23,7 @@ pub fn read_ack(kind: u32, message: &[u8]) -> AckAnswer
     if octets::read_u32(message, 0) != ACK_TYPE {
         return AckAnswer::NotAnAck;
     }
-    let size = octets::read_u32(message, SIZE_AT) as usize;
+    let size = octets::read_u32(message, messages::SIZE_AT) as usize;
     if message.len() - HEADER != size {
         return AckAnswer::NotAnAck;
     }
@@ -56,7 +54,7 @@ fn carries_flags(kind: u32, status: u64) -> bool
     if kind != GET_FLAGS {
         return false;
     }
-    status == SUCCESS as u64
+    status == messages::SUCCESS as u64
 }
 
 // Whether a request of this type can get this status.

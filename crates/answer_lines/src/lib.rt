@@ -6,14 +6,12 @@ ghost use Rattle.text.specs.Text.{capacity, longestLine, longestTypeLine, Adds,
 ghost use Rattle.text.specs.Lines.{hashLine, verdictLine, hashText, twoWayText};
 use text::Text;
 use text::empty;
-use text::with_number;
 use text::with_octets;
 use text::with_refusal;
 use toeplitz::HashAnswer;
 use toeplitz::INPUT_TOO_LONG;
 use toeplitz::KEY_LENGTH;
 use toeplitz::KEY_LENGTH_WRONG;
-use toeplitz::TYPE_UNKNOWN;
 use toeplitz::TwoWayAnswer;
 
 // What the hash program prints for the octets that it read: 40 key octets, then the input.
@@ -85,8 +83,8 @@ pub fn with_verdict(t: Text, answer: TwoWayAnswer) -> Text
 {
     match answer {
         TwoWayAnswer::Yes => with_octets(t, b"yes\n"),
-        TwoWayAnswer::No(b) => with_number(t, b"no ", b as u64),
+        TwoWayAnswer::No(b) => text::with_number(t, b"no ", b as u64),
         TwoWayAnswer::KeyLength => with_refusal(t, KEY_LENGTH_WRONG),
-        TwoWayAnswer::HashType => with_refusal(t, TYPE_UNKNOWN),
+        TwoWayAnswer::HashType => with_refusal(t, toeplitz::TYPE_UNKNOWN),
     }
 }

@@ -7,11 +7,9 @@ ghost use Rattle.guest_messages.specs.Reader.{readAck};
 ghost use Rattle.by_number.specs.Answers.{statusTold, flagsTold};
 use guest_messages::AckAnswer;
 use guest_messages::BUFFER_TOO_SHORT;
-use guest_messages::NOT_AN_ACK;
 use guest_messages::VALUE_NOT_LISTED;
 use guest_messages::Written;
 use messages::SUCCESS;
-use toeplitz::KEY_LENGTH_WRONG;
 
 // What a call answers that is not refused.
 const DONE: u32 = 0;
@@ -26,7 +24,7 @@ pub fn tell_written(answer: Written, length: &mut usize) -> u32
             *length = n;
             DONE
         }
-        Written::KeyLength => KEY_LENGTH_WRONG,
+        Written::KeyLength => toeplitz::KEY_LENGTH_WRONG,
         Written::Value => VALUE_NOT_LISTED,
         Written::Buffer => BUFFER_TOO_SHORT,
     }
@@ -49,6 +47,6 @@ pub fn read_ack(kind: u32, message: &[u8], status: &mut u32, flags: &mut u32) ->
             *flags = f as u32;
             DONE
         }
-        AckAnswer::NotAnAck => NOT_AN_ACK,
+        AckAnswer::NotAnAck => guest_messages::NOT_AN_ACK,
     }
 }

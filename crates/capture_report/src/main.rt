@@ -1,9 +1,8 @@
 // Reads the files `settings` and `capture`, and prints how many packets and captured octets of the capture go to each
 // queue under those settings, or `refused` and a number.
-use report::MAX_FILE;
 
 // One octet more than the longest file, to tell one that is too long.
-const ROOM: usize = MAX_FILE + 1;
+const ROOM: usize = report::MAX_FILE + 1;
 
 fn main() {
     let mut settings = [0u8; ROOM];

@@ -1,5 +1,4 @@
 // The buffer whose first octets are the page that a case lends, and the cases that put octets into it.
-use cases::keep;
 use cases::number_at;
 use cases::print_cut;
 
@@ -17,7 +16,7 @@ pub fn patch(buffer: &mut [u8], body: &[u8]) {
         print_cut();
         return;
     }
-    keep(&mut buffer[at..], &body[2..]);
+    cases::keep(&mut buffer[at..], &body[2..]);
 }
 
 // The place, how many octets, and the seed that they are made from.

@@ -1,5 +1,4 @@
 // What the lines of the test programs are made of.
-use cases::wide;
 use libc::STDOUT_FILENO;
 
 pub fn print_word(word: &[u8]) {
@@ -49,7 +48,7 @@ pub fn digest(octets: &[u8]) -> u64 {
     let mut sum: u64 = 0;
     let mut i: usize = 0;
     while i < octets.len() {
-        sum = (sum * 257 + wide(octets[i]) as u64 + 1) % 4294967296;
+        sum = (sum * 257 + cases::wide(octets[i]) as u64 + 1) % 4294967296;
         i += 1;
     }
     sum

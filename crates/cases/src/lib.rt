@@ -2,7 +2,6 @@
 // files. A case is its kind, an octet, the length of its body, two octets, and the body.
 ghost use Rattle.octets.specs.Prelude.{_≡_, _+_, _≤_, _<_, length};
 ghost use Rattle.io.specs.Counts.{Counts};
-use libc::STDOUT_FILENO;
 
 // A case's kind, and where its body stands and ends.
 pub struct Taken {
@@ -67,7 +66,7 @@ fn cut_at(end: usize) -> Taken
 
 // Says that a case is cut short.
 pub fn print_cut() {
-    io::write_all(STDOUT_FILENO, b"cut\n");
+    io::write_all(libc::STDOUT_FILENO, b"cut\n");
 }
 
 // The number in the two octets from `at` on, the lowest first.

@@ -3,21 +3,13 @@ ghost use Rattle.octets.specs.Prelude.{_≡_, false, _^_, _≤_, _<_, length, g
 ghost use Rattle.page.specs.Page.{pageSize, areaSize};
 ghost use Rattle.ring.specs.Reading.{isWhole};
 ghost use Rattle.guest_steps.specs.Inner.{Collects};
-use ack_progress::look;
 use guest_steps::FAILED;
 use guest_steps::GuestAnswer;
 use guest_steps::IDLE;
-use guest_steps::MAX_ACK_PAYLOAD;
-use guest_steps::NUMBERS;
-use guest_steps::OWN_RSP_CONS;
-use guest_steps::PHASE;
-use guest_steps::Refusal;
 use guest_steps::Sight;
 use guest_steps::TAKEN;
 use guest_writes::keep;
 use guest_writes::settle;
-use messages::HEADER;
-use page::RESPONSES;
 
 // Reads octets of the ack, of which so many stand unread, to a request of type `kind`. Of an ack that is refused nothing
 // is counted, and the page stays.
@@ -25,20 +17,20 @@ pub fn collect(
     page: &mut [u8],
     kind: u32,
     unread: u32,
-    numbers: &mut [u64; NUMBERS],
-    header: &mut [u8; HEADER],
-    payload: &mut [u8; MAX_ACK_PAYLOAD],
+    numbers: &mut [u64; guest_steps::NUMBERS],
+    header: &mut [u8; messages::HEADER],
+    payload: &mut [u8; guest_steps::MAX_ACK_PAYLOAD],
 ) -> GuestAnswer
     requires { ⌜ (length (now page) ≡ pageSize) × (unread ≤ areaSize) × (isWhole (now header) (getD (now numbers) 4 0) ≡ false) ⌝ }
     requires { ⌜ (getD (now numbers) 3 0 < 2 ^ 32) × (getD (now numbers) 5 0 < 2 ^ 32) ⌝ }
     ensures { λ r. ⌜ Collects kind (now (numbers .entry)) (now (header .entry)) (now (payload .entry)) (now (page .entry)) unread r
         (now (numbers .exit)) (now (header .exit)) (now (payload .exit)) (now (page .exit)) ⌝ }
 {
-    let phase = numbers[PHASE];
-    let before = numbers[OWN_RSP_CONS] as u32;
+    let phase = numbers[guest_steps::PHASE];
+    let before = numbers[guest_steps::OWN_RSP_CONS] as u32;
     let n = ring::receive(
         &page[..],
-        RESPONSES,
+        page::RESPONSES,
         header,
         payload,
         numbers[TAKEN],
@@ -47,7 +39,7 @@ pub fn collect(
     );
     let taken = numbers[TAKEN] + n as u64;
     let rsp_cons = std::num::wrapping_add_u32(before, n);
-    let sight = look(kind, header, payload, taken);
+    let sight = ack_progress::look(kind, header, payload, taken);
     match sight {
         Sight::Partly => {
             settle(numbers, phase, taken, rsp_cons, page);
@@ -55,7 +47,7 @@ pub fn collect(
         }
         Sight::Refused => {
             keep(numbers, FAILED, 0, before);
-            GuestAnswer::Refused(Refusal::AckRefused)
+            GuestAnswer::Refused(guest_steps::Refusal::AckRefused)
         }
         Sight::Status(status) => {
             settle(numbers, IDLE, 0, rsp_cons, page);

@@ -6,22 +6,14 @@ ghost use Rattle.ring.specs.Reading.{whole};
 ghost use Rattle.interface.specs.States.{Good, settingsIn, interfaceIn};
 ghost use Rattle.interface.specs.Events.{left, carriedOver, afterRead};
 use interface::ACK_LENGTH;
-use interface::ACK_WRITTEN;
 use interface::ENTRY_COUNT;
 use interface::FLAGS;
 use interface::NUMBERS;
-use interface::OWN_REQ_CONS;
-use interface::OWN_RSP_PROD;
-use interface::QUEUES;
 use interface::TAKEN;
-use interface::WAITING;
 use messages::HEADER;
 use messages::MAX_ACK;
 use messages::MAX_ENTRIES;
 use messages::MAX_PAYLOAD;
-use messages::SIZE_AT;
-use page::REQ_CONS;
-use page::RSP_PROD;
 use toeplitz::KEY_LENGTH;
 
 // Once the octets there are have been read: a request that is whole is carried out, and as much of its ack written as fits.
@@ -50,12 +42,12 @@ pub fn conclude(
     }
     page::write_counts(
         page,
-        REQ_CONS,
-        numbers[OWN_REQ_CONS] as u32,
-        RSP_PROD,
-        numbers[OWN_RSP_PROD] as u32,
+        page::REQ_CONS,
+        numbers[interface::OWN_REQ_CONS] as u32,
+        page::RSP_PROD,
+        numbers[interface::OWN_RSP_PROD] as u32,
     );
-    WAITING
+    interface::WAITING
 }
 
 // Carries out the request, which is whole: its effect goes into the settings, and its ack is owed.
@@ -74,10 +66,10 @@ fn carry_over(
         (now (entries .entry))) ⌝ }
 {
     let kind = octets::read_u32(header, 0);
-    let size = octets::read_u32(header, SIZE_AT);
+    let size = octets::read_u32(header, messages::SIZE_AT);
     let held = &mut numbers[..];
     let carried = requests::carry_out(
-        held[QUEUES] as u8,
+        held[interface::QUEUES] as u8,
         held[FLAGS] as u8,
         held[ENTRY_COUNT] as u8,
         key,
@@ -91,5 +83,5 @@ fn carry_over(
     held[ENTRY_COUNT] = carried.count as u64;
     held[TAKEN] = 0;
     held[ACK_LENGTH] = carried.ack_length as u64;
-    held[ACK_WRITTEN] = 0;
+    held[interface::ACK_WRITTEN] = 0;
 }

@@ -6,7 +6,6 @@ ghost use Rattle.ring.specs.Reading.{whole};
 ghost use Rattle.ring.specs.Writing.{GoodOutgoing};
 ghost use Rattle.interface.specs.States.{incomingIn, outgoingIn};
 ghost use Rattle.interface.specs.Inner.{Responds, Reads};
-use interface::ACK_LENGTH;
 use interface::ACK_WRITTEN;
 use interface::NUMBERS;
 use interface::OWED;
@@ -14,21 +13,14 @@ use interface::OWN_REQ_CONS;
 use interface::OWN_RSP_PROD;
 use interface::TAKEN;
 use interface::WRITTEN;
-use messages::HEADER;
-use messages::MAX_ACK;
-use messages::MAX_PAYLOAD;
-use page::REQ_CONS;
-use page::REQUESTS;
-use page::RESPONSES;
-use page::RSP_PROD;
 
 // Reads octets of the present request, of which so many stand unread in the request area. An event that finds none is
 // spared the call.
 pub fn read_request(
     page: &[u8],
     numbers: &mut [u64; NUMBERS],
-    header: &mut [u8; HEADER],
-    payload: &mut [u8; MAX_PAYLOAD],
+    header: &mut [u8; messages::HEADER],
+    payload: &mut [u8; messages::MAX_PAYLOAD],
     unread: u32,
 )
     requires { ⌜ (length (now page) ≡ pageSize) × (unread ≤ areaSize) ⌝ }
@@ -41,26 +33,31 @@ pub fn read_request(
         let held = &mut numbers[..];
         let taken = held[TAKEN];
         let cons = held[OWN_REQ_CONS] as u32;
-        let n = ring::receive(page, REQUESTS, header, payload, taken, cons, unread);
+        let n = ring::receive(page, page::REQUESTS, header, payload, taken, cons, unread);
         held[TAKEN] = taken + n as u64;
         held[OWN_REQ_CONS] = std::num::wrapping_add_u32(cons, n) as u64;
     }
 }
 
 // Writes as much of the ack as fits into `room` octets, and both counts.
-pub fn respond(numbers: &mut [u64; NUMBERS], ack: &[u8; MAX_ACK], room: u32, page: &mut [u8]) -> u32
+pub fn respond(
+    numbers: &mut [u64; NUMBERS],
+    ack: &[u8; messages::MAX_ACK],
+    room: u32,
+    page: &mut [u8],
+) -> u32
     requires { ⌜ (length (now page) ≡ pageSize) × (room ≤ areaSize) × (getD (now numbers) 4 0 < 2 ^ 32) ⌝ }
     requires { ⌜ GoodOutgoing maxAck (outgoingIn (now numbers) (now ack)) ⌝ }
     ensures { λ r. ⌜ Responds (now (numbers .entry)) (now (ack .entry)) (now (page .entry)) room r (now (numbers .exit)) (now (page .exit)) ⌝ }
 {
     let held = &mut numbers[..];
     let req_cons = held[OWN_REQ_CONS] as u32;
-    let size = held[ACK_LENGTH];
+    let size = held[interface::ACK_LENGTH];
     let before = held[ACK_WRITTEN];
     let count = held[OWN_RSP_PROD] as u32;
     let n = ring::send(
         page,
-        RESPONSES,
+        page::RESPONSES,
         &ack[..],
         size as usize,
         before as usize,
@@ -71,6 +68,6 @@ pub fn respond(numbers: &mut [u64; NUMBERS], ack: &[u8; MAX_ACK], room: u32, pag
     let rsp_prod = std::num::wrapping_add_u32(count, n);
     held[ACK_WRITTEN] = written;
     held[OWN_RSP_PROD] = rsp_prod as u64;
-    page::write_counts(page, REQ_CONS, req_cons, RSP_PROD, rsp_prod);
+    page::write_counts(page, page::REQ_CONS, req_cons, page::RSP_PROD, rsp_prod);
     if written < size { OWED } else { WRITTEN }
 }

@@ -1,14 +1,8 @@
 // What the guest does to the page between the calls.
 ghost use Rattle.octets.specs.Prelude.{_≡_, length};
-use case_tools::fill;
-use case_tools::patch;
 use cases::print_cut;
-use page::AREA;
-use page::REQ_CONS;
 use page::REQ_PROD;
-use page::REQUESTS;
 use page::RSP_CONS;
-use page::RSP_PROD;
 
 // The kinds: octets put at a place, octets made there, octets sent, and octets of acks taken. Those between are not the
 // guest's alone.
@@ -24,8 +18,8 @@ pub(crate) fn act(page: &mut [u8], kind: u8, body: &[u8])
     requires { ⌜ length (now page) ≡ 4160 ⌝ }
 {
     match kind {
-        PATCH => patch(page, body),
-        FILL => fill(page, body),
+        PATCH => case_tools::patch(page, body),
+        FILL => case_tools::fill(page, body),
         SEND => send(page, body),
         TAKE => take(page, body),
         _ => {}
@@ -39,8 +33,8 @@ fn send(page: &mut [u8], body: &[u8])
     let mut count = octets::read_u32(&page[..], REQ_PROD);
     let mut i: usize = 0;
     while i < body.len() {
-        let place = (count % AREA) as usize;
-        page[REQUESTS + place] = body[i];
+        let place = (count % page::AREA) as usize;
+        page[page::REQUESTS + place] = body[i];
         count = std::num::wrapping_add_u32(count, 1);
         i += 1;
     }
@@ -70,8 +64,8 @@ pub(crate) fn empty_areas(page: &mut [u8], body: &[u8])
     }
     let requests = octets::read_u32(body, 0);
     let responses = octets::read_u32(body, 4);
-    octets::write_u32(page, REQ_CONS, requests);
+    octets::write_u32(page, page::REQ_CONS, requests);
     octets::write_u32(page, REQ_PROD, requests);
     octets::write_u32(page, RSP_CONS, responses);
-    octets::write_u32(page, RSP_PROD, responses);
+    octets::write_u32(page, page::RSP_PROD, responses);
 }

@@ -5,13 +5,6 @@ ghost use Rattle.interface.specs.States.{Good, stateOf};
 
 mod guest;
 
-use answer_text::print_steered;
-use case_tools::BUFFER;
-use cases::PARTS;
-use cases::take_case;
-use host_cases::first_interface;
-use interface::ENTRY_COUNT;
-use interface::FLAGS;
 use interface::Interface;
 
 // The kinds that the interface has a part in, of which the last is the guest's too; the others are the guest's.
@@ -25,9 +18,9 @@ const COUNTS: u8 = 7;
 
 fn main() {
     let mut buffer = io::large_buffer();
-    let mut page = [0u8; BUFFER];
-    let mut i = first_interface();
-    for part in 0..PARTS {
+    let mut page = [0u8; case_tools::BUFFER];
+    let mut i = host_cases::first_interface();
+    for part in 0..cases::PARTS {
         // A file that is not there has no case.
         let n = cases::load_part(part, &mut buffer);
         i = run(i, &mut page, &buffer[..n]);
@@ -42,7 +35,7 @@ fn run(first: Interface, page: &mut [u8], cases: &[u8]) -> Interface
     let mut i = first;
     let mut at: usize = 0;
     while at < cases.len() {
-        let taken = take_case(cases, at);
+        let taken = cases::take_case(cases, at);
         let start = taken.start;
         let end = taken.end;
         i = answer(i, page, taken.kind, &cases[start..end]);
@@ -78,9 +71,9 @@ fn answer(i: Interface, page: &mut [u8], kind: u8, body: &[u8]) -> Interface
 fn packet(i: Interface, body: &[u8])
     requires { ⌜ Good (stateOf i) ⌝ }
 {
-    let flags = i.numbers[FLAGS] as u8;
-    let count = i.numbers[ENTRY_COUNT] as u8;
+    let flags = i.numbers[interface::FLAGS] as u8;
+    let count = i.numbers[interface::ENTRY_COUNT] as u8;
     let key = i.key;
     let entries = i.entries;
-    print_steered(interface::steer(flags, &key, &entries, count, body));
+    answer_text::print_steered(interface::steer(flags, &key, &entries, count, body));
 }

@@ -7,23 +7,17 @@ use guest_steps::Finding;
 use guest_steps::GuestAnswer;
 use guest_steps::IDLE;
 use guest_steps::LENGTH;
-use guest_steps::MAX_ACK_PAYLOAD;
 use guest_steps::MAX_REQUEST;
 use guest_steps::NUMBERS;
 use guest_steps::PHASE;
 use guest_steps::WRITTEN;
-use guest_steps::find;
-use guest_writes::write_counts;
-use guest_writes::write_on;
-use guest_writes::written_answer;
-use messages::HEADER;
 
 // One event of the guest whose parts are lent, on its page.
 pub fn event(
     numbers: &mut [u64; NUMBERS],
     request: &[u8; MAX_REQUEST],
-    header: &mut [u8; HEADER],
-    payload: &mut [u8; MAX_ACK_PAYLOAD],
+    header: &mut [u8; messages::HEADER],
+    payload: &mut [u8; guest_steps::MAX_ACK_PAYLOAD],
     page: &mut [u8],
 ) -> GuestAnswer
     requires { ⌜ Good (guestIn (now numbers) (now request) (now header) (now payload)) ⌝ }
@@ -31,16 +25,21 @@ pub fn event(
         ≡ eventOf (guestIn (now (numbers .entry)) (now (request .entry)) (now (header .entry)) (now (payload .entry))) (now (page .entry)))
         × Good (guestIn (now (numbers .exit)) (now (request .entry)) (now (header .exit)) (now (payload .exit))) ⌝ }
 {
-    let finding = find(&page[..], numbers);
+    let finding = guest_steps::find(&page[..], numbers);
     match finding {
         Finding::Hindered(refusal) => GuestAnswer::Refused(refusal),
         Finding::Counts(room, unread) => {
             if numbers[PHASE] == IDLE {
-                write_counts(numbers, page);
+                guest_writes::write_counts(numbers, page);
                 return GuestAnswer::Pending;
             }
             if numbers[WRITTEN] < numbers[LENGTH] {
-                return written_answer(write_on(numbers, request, room, page));
+                return guest_writes::written_answer(guest_writes::write_on(
+                    numbers,
+                    request,
+                    room,
+                    page,
+                ));
             }
             let kind = octets::read_u32(request, 0);
             collecting::collect(page, kind, unread, numbers, header, payload)

@@ -2,29 +2,10 @@
 // library's call itself.
 ghost use Rattle.octets.specs.Prelude.{_≡_, _≤_, length};
 ghost use Rattle.guest_steps.specs.Guest.{Good, stateOf};
-use case_tools::MAX_GIVEN;
-use case_tools::digest;
-use case_tools::entries_in;
-use case_tools::print_form;
 use case_tools::print_number;
-use cases::number_at;
-use cases::number_up_to;
-use cases::print_cut;
-use guest_numbers::PENDING;
-use guest_numbers::REQUEST_OWED;
-use guest_numbers::refusal_number;
 use guest_steps::Ask;
 use guest_steps::Guest;
 use guest_steps::GuestAnswer;
-use guest_steps::MAX_ACK_PAYLOAD;
-use guest_steps::MAX_REQUEST;
-use guest_steps::NUMBERS;
-use guest_steps::OWN_REQ_PROD;
-use guest_steps::OWN_RSP_CONS;
-use guest_steps::PHASE;
-use messages::HEADER;
-use page::REQ_PROD;
-use page::RSP_CONS;
 
 // The kinds of the guest's calls: its four starts, of which the last is that of a mapping, and an event.
 pub const START_GET_FLAGS: u8 = 1;
@@ -39,10 +20,10 @@ pub const EVENT: u8 = 5;
 pub fn new_guest() -> Guest
     ensures { λ r. ⌜ Good (stateOf r) ⌝ }
 {
-    let mut numbers = [255; NUMBERS];
-    let mut request = [255; MAX_REQUEST];
-    let mut header = [255; HEADER];
-    let mut payload = [255; MAX_ACK_PAYLOAD];
+    let mut numbers = [255; guest_steps::NUMBERS];
+    let mut request = [255; guest_steps::MAX_REQUEST];
+    let mut header = [255; messages::HEADER];
+    let mut payload = [255; guest_steps::MAX_ACK_PAYLOAD];
     frontend::set_up(&mut numbers, &mut request, &mut header, &mut payload);
     Guest {
         numbers,
@@ -58,10 +39,10 @@ pub fn call(g: Guest, page: &mut [u8], kind: u8, body: &[u8]) -> Guest
     ensures { λ r. ⌜ Good (stateOf r) ⌝ }
 {
     if body.len() < 2 {
-        print_cut();
+        cases::print_cut();
         return g;
     }
-    let n = number_up_to(page.len(), body);
+    let n = cases::number_up_to(page.len(), body);
     let left = call_on(g, &mut page[0..n], kind, &body[2..]);
     print_left(left, &page[..]);
     left
@@ -76,7 +57,7 @@ fn call_on(g: Guest, page: &mut [u8], kind: u8, given: &[u8]) -> Guest
         return event(g, page);
     }
     let count = count_in(given);
-    let entries = entries_in(given, 2, count);
+    let entries = case_tools::entries_in(given, 2, count);
     start(g, page, ask_in(kind, given), given, &entries[0..count])
 }
 
@@ -148,8 +129,8 @@ fn count_in(given: &[u8]) -> usize
     if given.len() < 2 {
         return 0;
     }
-    let count = number_at(given, 0);
-    if count > MAX_GIVEN {
+    let count = cases::number_at(given, 0);
+    if count > case_tools::MAX_GIVEN {
         return 0;
     }
     count
@@ -158,9 +139,14 @@ fn count_in(given: &[u8]) -> usize
 // The rest of the line: the guest's phase and own counts, and all octets of the buffer.
 fn print_left(g: Guest, page: &[u8]) {
     let n = g.numbers;
-    print_form(
+    case_tools::print_form(
         b" phase # req_prod # rsp_cons # page $\n",
-        &[n[PHASE], n[OWN_REQ_PROD], n[OWN_RSP_CONS], digest(page)],
+        &[
+            n[guest_steps::PHASE],
+            n[guest_steps::OWN_REQ_PROD],
+            n[guest_steps::OWN_RSP_CONS],
+            case_tools::digest(page),
+        ],
     );
 }
 
@@ -176,9 +162,9 @@ fn print_answer(answer: GuestAnswer) {
 
 fn answer_number(answer: GuestAnswer) -> u64 {
     match answer {
-        GuestAnswer::Pending => PENDING as u64,
-        GuestAnswer::RequestOwed => REQUEST_OWED as u64,
-        GuestAnswer::Refused(refusal) => refusal_number(refusal) as u64,
+        GuestAnswer::Pending => guest_numbers::PENDING as u64,
+        GuestAnswer::RequestOwed => guest_numbers::REQUEST_OWED as u64,
+        GuestAnswer::Refused(refusal) => guest_numbers::refusal_number(refusal) as u64,
         _ => 1,
     }
 }
@@ -189,8 +175,8 @@ pub fn recount(g: Guest, page: &[u8]) -> Guest
     ensures { λ r. ⌜ Good (stateOf r) ⌝ }
 {
     let n = g.numbers;
-    let req_prod = octets::read_u32(page, REQ_PROD) as u64;
-    let rsp_cons = octets::read_u32(page, RSP_CONS) as u64;
+    let req_prod = octets::read_u32(page, page::REQ_PROD) as u64;
+    let rsp_cons = octets::read_u32(page, page::RSP_CONS) as u64;
     let numbers = [n[0], n[1], n[2], req_prod, n[4], rsp_cons];
     let mut left = g;
     left.numbers = numbers;

@@ -7,7 +7,6 @@ ghost use Rattle.guest_messages.specs.Writer.{fieldsOf, getFlagsMessage,
 use crate::Written;
 use messages::ALL_FLAGS;
 use messages::FIELD;
-use messages::GET_FLAGS;
 use messages::HEADER;
 use messages::MAX_ENTRIES;
 use messages::SET_FLAGS;
@@ -23,7 +22,7 @@ pub fn write_get_flags(buffer: &mut [u8]) -> Written
     if buffer.len() < HEADER {
         return Written::Buffer;
     }
-    write_header(buffer, GET_FLAGS, 0);
+    write_header(buffer, messages::GET_FLAGS, 0);
     Written::Length(HEADER)
 }
 

@@ -2,12 +2,9 @@
 ghost use Rattle.octets.specs.Prelude.{_≡_, cond};
 ghost use Rattle.guest_steps.specs.Guest.{toldNumber, toldOf, refusalNumber, requestOwed, pending};
 ghost use Rattle.guest_numbers.specs.Answers.{statusOfTold, flagsOfTold};
-use guest_messages::NOT_AN_ACK;
 use guest_steps::GuestAnswer;
-use guest_steps::REQUEST_OUTSTANDING;
 use guest_steps::Refusal;
 use messages::SUCCESS;
-use page::PAGE_WRONG;
 use page::REQUESTS_WRONG;
 use page::RESPONSES_WRONG;
 
@@ -52,10 +49,10 @@ pub fn refusal_number(refusal: Refusal) -> u32
     ensures { λ r. ⌜ r ≡ refusalNumber refusal ⌝ }
 {
     match refusal {
-        Refusal::PageLength => PAGE_WRONG,
+        Refusal::PageLength => page::PAGE_WRONG,
         Refusal::RequestCount => REQUESTS_WRONG,
         Refusal::ResponseCount => RESPONSES_WRONG,
-        Refusal::AckRefused => NOT_AN_ACK,
-        Refusal::Outstanding => REQUEST_OUTSTANDING,
+        Refusal::AckRefused => guest_messages::NOT_AN_ACK,
+        Refusal::Outstanding => guest_steps::REQUEST_OUTSTANDING,
     }
 }

@@ -5,41 +5,39 @@ ghost use Rattle.guest_messages.specs.Writer.{after, written};
 ghost use Rattle.guest_steps.specs.Guest.{maxRequest};
 ghost use Rattle.guest_steps.specs.Calls.{messageOf};
 ghost use Rattle.guest_steps.specs.Inner.{Readies, Begins};
-use guest_messages::Written;
 use guest_steps::Ask;
 use guest_steps::Finding;
 use guest_steps::IDLE;
-use guest_steps::LENGTH;
-use guest_steps::MAX_REQUEST;
 use guest_steps::NUMBERS;
 use guest_steps::OUTSTANDING;
 use guest_steps::PHASE;
 use guest_steps::Readiness;
-use guest_steps::Refusal;
-use guest_steps::WRITTEN;
-use guest_steps::find;
-use guest_writes::write_on;
 
 // What a start finds: beside what every call finds, no request may be outstanding.
 pub fn ready(page: &[u8], numbers: &[u64; NUMBERS]) -> Readiness
     requires { ⌜ (getD (now numbers) 3 0 < 2 ^ 32) × (getD (now numbers) 5 0 < 2 ^ 32) ⌝ }
     ensures { λ r. ⌜ Readies (now (numbers .entry)) (now (page .entry)) r ⌝ }
 {
-    let finding = find(page, numbers);
+    let finding = guest_steps::find(page, numbers);
     match finding {
         Finding::Hindered(refusal) => Readiness::Stopped(refusal),
         Finding::Counts(room, _) => {
             if numbers[PHASE] == IDLE {
                 Readiness::Room(room)
             } else {
-                Readiness::Stopped(Refusal::Outstanding)
+                Readiness::Stopped(guest_steps::Refusal::Outstanding)
             }
         }
     }
 }
 
 // Puts the message of what is asked for into its place.
-pub fn write_request(ask: Ask, key: &[u8], entries: &[u64], place: &mut [u8]) -> Written
+pub fn write_request(
+    ask: Ask,
+    key: &[u8],
+    entries: &[u64],
+    place: &mut [u8],
+) -> guest_messages::Written
     ensures { λ r. ⌜ after r (now (place .exit)) ≡ written (messageOf ask (now (key .entry)) (now (entries .entry))) (now (place .entry)) ⌝ }
 {
     match ask {
@@ -55,7 +53,7 @@ pub fn write_request(ask: Ask, key: &[u8], entries: &[u64], place: &mut [u8]) ->
 pub fn begin(
     n: usize,
     numbers: &mut [u64; NUMBERS],
-    request: &[u8; MAX_REQUEST],
+    request: &[u8; guest_steps::MAX_REQUEST],
     room: u32,
     page: &mut [u8],
 ) -> bool
@@ -66,7 +64,7 @@ pub fn begin(
 {
     let held = &mut numbers[..];
     held[PHASE] = OUTSTANDING;
-    held[LENGTH] = n as u64;
-    held[WRITTEN] = 0;
-    write_on(numbers, request, room, page)
+    held[guest_steps::LENGTH] = n as u64;
+    held[guest_steps::WRITTEN] = 0;
+    guest_writes::write_on(numbers, request, room, page)
 }

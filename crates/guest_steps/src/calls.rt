@@ -10,7 +10,6 @@ use crate::OWN_RSP_CONS;
 use crate::PHASE;
 use crate::Refusal;
 use page::AREA;
-use page::PAGE;
 use page::REQ_CONS;
 use page::RSP_PROD;
 
@@ -19,7 +18,7 @@ pub fn find(page: &[u8], numbers: &[u64; NUMBERS]) -> Finding
     requires { ⌜ (getD (now numbers) 3 0 < 2 ^ 32) × (getD (now numbers) 5 0 < 2 ^ 32) ⌝ }
     ensures { λ r. ⌜ Finds (now (numbers .entry)) (now (page .entry)) r ⌝ }
 {
-    if page.len() != PAGE {
+    if page.len() != page::PAGE {
         return Finding::Hindered(Refusal::PageLength);
     }
     let unread_requests = host_unread(page, numbers[OWN_REQ_PROD] as u32);

@@ -2,7 +2,6 @@
 mod calls;
 
 pub use calls::find;
-use messages::HEADER;
 
 // The refusal of a request begun while one is outstanding.
 pub const REQUEST_OUTSTANDING: u32 = 13;
@@ -40,7 +39,7 @@ pub const NUMBERS: usize = 6;
 pub struct Guest {
     pub numbers: [u64; NUMBERS],
     pub request: [u8; MAX_REQUEST],
-    pub header: [u8; HEADER],
+    pub header: [u8; messages::HEADER],
     pub payload: [u8; MAX_ACK_PAYLOAD],
 }
 

@@ -3,17 +3,9 @@
 ghost use Rattle.octets.specs.Prelude.{_≡_, length};
 ghost use Rattle.interface.specs.States.{Good, stateOf};
 ghost use Rattle.guest_steps.specs.Guest.{Good as GoodGuest, stateOf as guestOf};
-use case_tools::BUFFER;
-use case_tools::fill;
 use case_tools::patch;
-use case_tools::print_word;
-use cases::PARTS;
-use cases::take_case;
-use guest_cases::EVENT;
-use guest_cases::START_GET_FLAGS;
 use guest_cases::new_guest;
 use guest_steps::Guest;
-use host_cases::first_interface;
 use interface::Interface;
 
 // The kinds: a new guest, and behind the guest's calls other counts in the page, which both ends take their own from, the
@@ -38,12 +30,12 @@ struct Ends {
 
 fn main() {
     let mut buffer = io::large_buffer();
-    let mut page = [0u8; BUFFER];
+    let mut page = [0u8; case_tools::BUFFER];
     let mut ends = Ends {
         guest: new_guest(),
-        interface: first_interface(),
+        interface: host_cases::first_interface(),
     };
-    for part in 0..PARTS {
+    for part in 0..cases::PARTS {
         // A file that is not there has no case.
         let n = cases::load_part(part, &mut buffer);
         ends = run(ends, &mut page, &buffer[..n]);
@@ -59,7 +51,7 @@ fn run(first: Ends, page: &mut [u8], cases: &[u8]) -> Ends
     let mut interface = first.interface;
     let mut at: usize = 0;
     while at < cases.len() {
-        let taken = take_case(cases, at);
+        let taken = cases::take_case(cases, at);
         let kind = taken.kind;
         let start = taken.start;
         let end = taken.end;
@@ -77,10 +69,10 @@ fn answer_guest(g: Guest, page: &mut [u8], kind: u8, body: &[u8]) -> Guest
 {
     match kind {
         GUEST_SET_UP => {
-            print_word(b"guest set up\n");
+            case_tools::print_word(b"guest set up\n");
             new_guest()
         }
-        START_GET_FLAGS..=EVENT => guest_cases::call(g, page, kind, body),
+        guest_cases::START_GET_FLAGS..=guest_cases::EVENT => guest_cases::call(g, page, kind, body),
         COUNTS => {
             patch(page, body);
             guest_cases::recount(g, &page[..])
@@ -90,7 +82,7 @@ fn answer_guest(g: Guest, page: &mut [u8], kind: u8, body: &[u8]) -> Guest
             g
         }
         FILL => {
-            fill(page, body);
+            case_tools::fill(page, body);
             g
         }
         _ => g,

@@ -5,22 +5,17 @@ ghost use Rattle.ring.specs.Writing.{GoodOutgoing};
 ghost use Rattle.guest_steps.specs.Guest.{maxRequest, guestIn, outgoing};
 ghost use Rattle.guest_steps.specs.Inner.{writtenAnswer, WritesOn, Keeps};
 use guest_steps::GuestAnswer;
-use guest_steps::LENGTH;
-use guest_steps::MAX_REQUEST;
 use guest_steps::NUMBERS;
 use guest_steps::OWN_REQ_PROD;
 use guest_steps::OWN_RSP_CONS;
-use guest_steps::PHASE;
-use guest_steps::TAKEN;
 use guest_steps::WRITTEN;
 use page::REQ_PROD;
-use page::REQUESTS;
 use page::RSP_CONS;
 
 // Writes as many octets of the request as fit into `room` octets, and both counts; answers whether octets are still owed.
 pub fn write_on(
     numbers: &mut [u64; NUMBERS],
-    request: &[u8; MAX_REQUEST],
+    request: &[u8; guest_steps::MAX_REQUEST],
     room: u32,
     page: &mut [u8],
 ) -> bool
@@ -31,12 +26,12 @@ pub fn write_on(
 {
     let held = &mut numbers[..];
     let rsp_cons = held[OWN_RSP_CONS] as u32;
-    let size = held[LENGTH];
+    let size = held[guest_steps::LENGTH];
     let before = held[WRITTEN];
     let count = held[OWN_REQ_PROD] as u32;
     let n = ring::send(
         page,
-        REQUESTS,
+        page::REQUESTS,
         &request[..],
         size as usize,
         before as usize,
@@ -82,8 +77,8 @@ pub fn keep(numbers: &mut [u64; NUMBERS], phase: u64, taken: u64, rsp_cons: u32)
     ensures { λ _. ⌜ Keeps (now (numbers .entry)) phase taken «rsp_cons» (now (numbers .exit)) ⌝ }
 {
     let held = &mut numbers[..];
-    held[PHASE] = phase;
-    held[TAKEN] = taken;
+    held[guest_steps::PHASE] = phase;
+    held[guest_steps::TAKEN] = taken;
     held[OWN_RSP_CONS] = rsp_cons as u64;
 }
 

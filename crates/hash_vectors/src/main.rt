@@ -1,9 +1,6 @@
 // Runs the cases of its files, one file after the other, and prints a line for each answer. A case's body is the length
 // of its first part, an octet, and then its two parts.
-use cases::PARTS;
 use cases::print_cut;
-use cases::take_case;
-use cases::wide;
 
 // The kinds: a hash call on a key and an input, a two-way call on a key and a hash type of one octet, and
 // what the two programs print for the second part.
@@ -15,7 +12,7 @@ const HASH_PROGRAM: u8 = 2;
 
 fn main() {
     let mut buffer = io::large_buffer();
-    for part in 0..PARTS {
+    for part in 0..cases::PARTS {
         // A file that is not there has no case.
         let n = cases::load_part(part, &mut buffer);
         run(&buffer[..n]);
@@ -25,7 +22,7 @@ fn main() {
 fn run(cases: &[u8]) {
     let mut at: usize = 0;
     while at < cases.len() {
-        let taken = take_case(cases, at);
+        let taken = cases::take_case(cases, at);
         let start = taken.start;
         let end = taken.end;
         split(taken.kind, &cases[start..end]);
@@ -39,7 +36,7 @@ fn split(kind: u8, body: &[u8]) {
         print_cut();
         return;
     }
-    let second = 1 + wide(body[0]);
+    let second = 1 + cases::wide(body[0]);
     if body.len() < second {
         print_cut();
         return;

@@ -6,8 +6,6 @@ ghost use Rattle.toeplitz.specs.Inner.{hashBelow};
 use toeplitz::HashAnswer;
 use toeplitz::KEY_LENGTH;
 use toeplitz::MAX_INPUT;
-use toeplitz::is_set;
-use toeplitz::next_window;
 use toeplitz::octet_window;
 
 // The published hash of the input under the key.
@@ -70,8 +68,8 @@ fn add_octet(key: &[u8], input: &[u8], at: usize, before: u32) -> u32
     let mut j: usize = 0;
     while j < 8 {
         let here = window;
-        window = next_window(key, here, at * 8 + j);
-        sum = add_window(sum, is_set(input, at * 8 + j), here);
+        window = toeplitz::next_window(key, here, at * 8 + j);
+        sum = add_window(sum, toeplitz::is_set(input, at * 8 + j), here);
         j += 1;
     }
     sum

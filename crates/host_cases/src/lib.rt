@@ -4,23 +4,7 @@ ghost use Rattle.octets.specs.Prelude.{_≡_, length};
 ghost use Rattle.interface.specs.States.{Good, stateOf};
 use case_tools::digest;
 use case_tools::print_form;
-use case_tools::print_number;
-use case_tools::print_word;
-use cases::number_up_to;
-use cases::print_cut;
-use interface::ENTRY_COUNT;
-use interface::FLAGS;
 use interface::Interface;
-use interface::OWN_REQ_CONS;
-use interface::OWN_RSP_PROD;
-use interface::SET_UP;
-use messages::HEADER;
-use messages::MAX_ACK;
-use messages::MAX_ENTRIES;
-use messages::MAX_PAYLOAD;
-use page::REQ_CONS;
-use page::RSP_PROD;
-use toeplitz::KEY_LENGTH;
 
 // The interface that a program begins with is as setup with one queue leaves it.
 pub fn first_interface() -> Interface
@@ -28,11 +12,11 @@ pub fn first_interface() -> Interface
 {
     Interface {
         numbers: [1, 0, 1, 0, 0, 0, 0, 0],
-        header: [0; HEADER],
-        payload: [0; MAX_PAYLOAD],
-        ack: [0; MAX_ACK],
-        key: [0; KEY_LENGTH],
-        entries: [0; MAX_ENTRIES],
+        header: [0; messages::HEADER],
+        payload: [0; messages::MAX_PAYLOAD],
+        ack: [0; messages::MAX_ACK],
+        key: [0; toeplitz::KEY_LENGTH],
+        entries: [0; messages::MAX_ENTRIES],
     }
 }
 
@@ -42,7 +26,7 @@ pub fn set_up(i: Interface, body: &[u8]) -> Interface
     ensures { λ r. ⌜ Good (stateOf r) ⌝ }
 {
     if body.len() < 4 {
-        print_cut();
+        cases::print_cut();
         return i;
     }
     set_up_with(i, octets::read_u32(body, 0))
@@ -78,8 +62,8 @@ fn set_up_with(i: Interface, queues: u32) -> Interface
 }
 
 fn print_set_up(answer: u32) {
-    if answer == SET_UP {
-        print_word(b"set up\n");
+    if answer == interface::SET_UP {
+        case_tools::print_word(b"set up\n");
     } else {
         print_form(b"refused #\n", &[answer as u64]);
     }
@@ -90,7 +74,7 @@ pub fn event(i: Interface, page: &mut [u8], body: &[u8]) -> Interface
     requires { ⌜ Good (stateOf i) ⌝ }
     ensures { λ r. ⌜ Good (stateOf r) ⌝ }
 {
-    let n = number_up_to(page.len(), body);
+    let n = cases::number_up_to(page.len(), body);
     let left = event_on(i, &mut page[0..n]);
     print_left(left, &page[..]);
     left
@@ -116,7 +100,7 @@ fn event_on(i: Interface, page: &mut [u8]) -> Interface
         &mut entries,
         page,
     );
-    print_number(b"answer ", answer as u64);
+    case_tools::print_number(b"answer ", answer as u64);
     Interface {
         numbers,
         header,
@@ -132,11 +116,11 @@ fn print_left(i: Interface, page: &[u8]) {
     print_form(
         b" req_cons # rsp_prod # page $ flags # entries # key $ table $\n",
         &[
-            i.numbers[OWN_REQ_CONS],
-            i.numbers[OWN_RSP_PROD],
+            i.numbers[interface::OWN_REQ_CONS],
+            i.numbers[interface::OWN_RSP_PROD],
             digest(page),
-            i.numbers[FLAGS],
-            i.numbers[ENTRY_COUNT],
+            i.numbers[interface::FLAGS],
+            i.numbers[interface::ENTRY_COUNT],
             digest(&i.key),
             digest(&i.entries),
         ],
@@ -149,8 +133,8 @@ pub fn recount(i: Interface, page: &[u8]) -> Interface
     ensures { λ r. ⌜ Good (stateOf r) ⌝ }
 {
     let n = i.numbers;
-    let req_cons = octets::read_u32(page, REQ_CONS) as u64;
-    let rsp_prod = octets::read_u32(page, RSP_PROD) as u64;
+    let req_cons = octets::read_u32(page, page::REQ_CONS) as u64;
+    let rsp_prod = octets::read_u32(page, page::RSP_PROD) as u64;
     let numbers = [n[0], n[1], n[2], n[3], req_cons, n[5], n[6], rsp_prod];
     let mut left = i;
     left.numbers = numbers;

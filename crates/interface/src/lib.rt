@@ -2,13 +2,8 @@
 mod packets;
 mod setup;
 
-use messages::HEADER;
-use messages::MAX_ACK;
-use messages::MAX_ENTRIES;
-use messages::MAX_PAYLOAD;
 pub use packets::steer;
 pub use setup::set_up;
-use toeplitz::KEY_LENGTH;
 
 // The most queues in operation.
 pub const MAX_QUEUES: u32 = 64;
@@ -51,9 +46,9 @@ pub const NUMBERS: usize = 8;
 #[repr(C)]
 pub struct Interface {
     pub numbers: [u64; NUMBERS],
-    pub header: [u8; HEADER],
-    pub payload: [u8; MAX_PAYLOAD],
-    pub ack: [u8; MAX_ACK],
-    pub key: [u8; KEY_LENGTH],
-    pub entries: [u8; MAX_ENTRIES],
+    pub header: [u8; messages::HEADER],
+    pub payload: [u8; messages::MAX_PAYLOAD],
+    pub ack: [u8; messages::MAX_ACK],
+    pub key: [u8; toeplitz::KEY_LENGTH],
+    pub entries: [u8; messages::MAX_ENTRIES],
 }

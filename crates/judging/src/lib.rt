@@ -3,16 +3,14 @@
 ghost use Rattle.octets.specs.Prelude.{_≡_, length};
 ghost use Rattle.messages.specs.Wire.{maxPayload};
 ghost use Rattle.messages.specs.Inner.{GetsFlags, SetsFlags, SetsKey, SetsMapping};
-use messages::ALL_FLAGS;
 use messages::BUFFER_OVERFLOW;
-use messages::FIELD;
 use messages::INVALID_PARAMETER;
 use messages::MAX_ENTRIES;
 use messages::SUCCESS;
 use toeplitz::KEY_LENGTH;
 
 // Sizes as a header gives them.
-const FIELD_SIZE: u32 = FIELD as u32;
+const FIELD_SIZE: u32 = messages::FIELD as u32;
 
 const KEY_SIZE: u32 = KEY_LENGTH as u32;
 
@@ -35,7 +33,7 @@ pub fn set_flags(flags: &mut u8, size: u32, payload: &[u8]) -> u8
         return INVALID_PARAMETER;
     }
     let value = octets::read_u64(payload, 0);
-    if value > ALL_FLAGS as u64 {
+    if value > messages::ALL_FLAGS as u64 {
         return INVALID_PARAMETER;
     }
     *flags = value as u8;

@@ -2,13 +2,9 @@
 ghost use Rattle.octets.specs.Prelude.{_≡_, _≤_, length};
 ghost use Rattle.capture.specs.Header.{captureHeader, isClassic, linkOutcome, headerOutcome, headerOutcomeOf};
 ghost use Rattle.capture.specs.Packets.{holdsIp, ipPart};
-use capture::CAPTURE_HEADER;
 use capture::HeaderAnswer;
 use capture::Link;
-use capture::MAGIC;
-use capture::MAGIC_AT;
 use capture::Order;
-use capture::order_of;
 use capture::u16_at;
 use capture::u32_at;
 
@@ -42,10 +38,10 @@ const ETHER_IPV6: u32 = 0x86DD;
 pub fn header(capture: &[u8]) -> HeaderAnswer
     ensures { λ r. ⌜ headerOutcomeOf r ≡ headerOutcome (now (capture .entry)) ⌝ }
 {
-    if capture.len() < CAPTURE_HEADER {
+    if capture.len() < capture::CAPTURE_HEADER {
         return HeaderAnswer::Bad;
     }
-    let order = order_of(capture);
+    let order = capture::order_of(capture);
     if !is_classic(capture, order) {
         return HeaderAnswer::Bad;
     }
@@ -57,7 +53,7 @@ fn is_classic(capture: &[u8], order: Order) -> bool
     requires { ⌜ captureHeader ≤ length (now capture) ⌝ }
     ensures { λ r. ⌜ r ≡ isClassic order (now (capture .entry)) ⌝ }
 {
-    if u32_at(capture, order, MAGIC_AT) != MAGIC {
+    if u32_at(capture, order, capture::MAGIC_AT) != capture::MAGIC {
         return false;
     }
     if u16_at(capture, order, MAJOR_AT) != MAJOR {

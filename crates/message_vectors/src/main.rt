@@ -3,18 +3,8 @@
 
 mod answers;
 
-use answers::print_ack_answer;
-use answers::print_carried;
-use answers::print_written;
-use case_tools::MAX_GIVEN;
-use case_tools::entries_in;
-use cases::PARTS;
-use cases::keep;
-use cases::number_up_to;
 use cases::print_cut;
-use cases::take_case;
 use guest_messages::Written;
-use messages::MAX_ACK;
 use messages::MAX_ENTRIES;
 use messages::MAX_PAYLOAD;
 use toeplitz::KEY_LENGTH;
@@ -47,7 +37,7 @@ pub(crate) struct Settings {
 fn main() {
     let mut buffer = io::large_buffer();
     let mut settings = at_setup(1);
-    for part in 0..PARTS {
+    for part in 0..cases::PARTS {
         // A file that is not there has no case.
         let n = cases::load_part(part, &mut buffer);
         settings = run(settings, &buffer[..n]);
@@ -70,7 +60,7 @@ fn run(first: Settings, cases: &[u8]) -> Settings {
     let mut settings = first;
     let mut at: usize = 0;
     while at < cases.len() {
-        let taken = take_case(cases, at);
+        let taken = cases::take_case(cases, at);
         let start = taken.start;
         let end = taken.end;
         settings = answer(settings, taken.kind, &cases[start..end]);
@@ -104,7 +94,7 @@ fn request(settings: Settings, body: &[u8]) -> Settings {
     let size = octets::read_u32(body, 4);
     // What stands behind the payload in the buffer is not to be looked at.
     let mut payload = [238; MAX_PAYLOAD];
-    keep(&mut payload, &body[8..]);
+    cases::keep(&mut payload, &body[8..]);
     carry_out(settings, kind, size, &payload)
 }
 
@@ -112,7 +102,7 @@ fn carry_out(settings: Settings, kind: u32, size: u32, payload: &[u8; MAX_PAYLOA
     let queues = settings.queues;
     let mut key = settings.key;
     let mut entries = settings.entries;
-    let mut ack = [0; MAX_ACK];
+    let mut ack = [0; messages::MAX_ACK];
     let carried = requests::carry_out(
         queues,
         settings.flags,
@@ -131,7 +121,7 @@ fn carry_out(settings: Settings, kind: u32, size: u32, payload: &[u8; MAX_PAYLOA
         key,
         entries,
     };
-    print_carried(left, carried.ack_length as u64, &ack);
+    answers::print_carried(left, carried.ack_length as u64, &ack);
     left
 }
 
@@ -141,14 +131,14 @@ fn write(kind: u8, body: &[u8]) {
         print_cut();
         return;
     }
-    let room = number_up_to(MAX_BUFFER, body);
+    let room = cases::number_up_to(MAX_BUFFER, body);
     let mut buffer = [165; MAX_BUFFER];
     write_and_print(&mut buffer[0..room], kind, &body[2..]);
 }
 
 fn write_and_print(buffer: &mut [u8], kind: u8, given: &[u8]) {
     let written = write_into(buffer, kind, given);
-    print_written(written, &buffer[..]);
+    answers::print_written(written, &buffer[..]);
 }
 
 fn write_into(buffer: &mut [u8], kind: u8, given: &[u8]) -> Written {
@@ -169,10 +159,10 @@ fn write_flags(buffer: &mut [u8], given: &[u8]) -> Written {
 
 fn write_mapping(buffer: &mut [u8], given: &[u8]) -> Written {
     let count = given.len() / 8;
-    if count > MAX_GIVEN {
+    if count > case_tools::MAX_GIVEN {
         return Written::Value;
     }
-    let entries = entries_in(given, 0, count);
+    let entries = case_tools::entries_in(given, 0, count);
     guest_messages::write_set_mapping(buffer, &entries[0..count])
 }
 
@@ -182,5 +172,5 @@ fn read(body: &[u8]) {
         print_cut();
         return;
     }
-    print_ack_answer(ack_reader::read_ack(octets::read_u32(body, 0), &body[4..]));
+    answers::print_ack_answer(ack_reader::read_ack(octets::read_u32(body, 0), &body[4..]));
 }

@@ -1,17 +1,9 @@
 // Runs the cases of its files, one file after the other, and prints a line for each packet: what it is, and where it
 // goes under the settings before it.
 ghost use Rattle.octets.specs.Prelude.{_≤_, length};
-use answer_text::print_steered;
 use case_tools::print_number;
 use case_tools::print_word;
-use cases::PARTS;
-use cases::keep;
-use cases::print_cut;
-use cases::take_case;
 use packet::Found;
-use packet::IPV4;
-use packet::IPV4_TCP;
-use packet::IPV6;
 
 // The kinds: settings for the packets behind them, and a packet.
 const SETTINGS: u8 = 0;
@@ -30,7 +22,7 @@ fn main() {
     let mut buffer = io::large_buffer();
     let mut settings = [0u8; MOST];
     let mut kept: usize = 0;
-    for part in 0..PARTS {
+    for part in 0..cases::PARTS {
         // A file that is not there has no case.
         let n = cases::load_part(part, &mut buffer);
         kept = run(&buffer[..n], &mut settings, kept);
@@ -46,7 +38,7 @@ fn run(cases: &[u8], settings: &mut [u8], before: usize) -> usize
     let mut kept = before;
     let mut at: usize = 0;
     while at < cases.len() {
-        let taken = take_case(cases, at);
+        let taken = cases::take_case(cases, at);
         let start = taken.start;
         let end = taken.end;
         kept = act(settings, kept, taken.kind, &cases[start..end]);
@@ -61,7 +53,7 @@ fn act(settings: &mut [u8], kept: usize, kind: u8, body: &[u8]) -> usize
     ensures { λ r. ⌜ r ≤ length (now (settings .exit)) ⌝ }
 {
     if kind == SETTINGS {
-        return keep(settings, body);
+        return cases::keep(settings, body);
     }
     if kind == PACKET {
         answer(&settings[0..kept], body);
@@ -72,11 +64,11 @@ fn act(settings: &mut [u8], kept: usize, kind: u8, body: &[u8]) -> usize
 // Before the first settings there are none, and a table has an entry.
 fn answer(settings: &[u8], packet: &[u8]) {
     if settings.len() <= TABLE_AT {
-        print_cut();
+        cases::print_cut();
         return;
     }
     print_found(packet::look(packet));
-    print_steered(steering::steer(
+    answer_text::print_steered(steering::steer(
         settings[0],
         &settings[KEY_AT..TABLE_AT],
         &settings[TABLE_AT..],
@@ -105,9 +97,9 @@ fn print_found(found: Found) {
 
 fn print_kind(hash_type: u8) {
     match hash_type {
-        IPV4 => print_word(b"ipv4"),
-        IPV4_TCP => print_word(b"ipv4_tcp"),
-        IPV6 => print_word(b"ipv6"),
+        packet::IPV4 => print_word(b"ipv4"),
+        packet::IPV4_TCP => print_word(b"ipv4_tcp"),
+        packet::IPV6 => print_word(b"ipv6"),
         _ => print_word(b"ipv6_tcp"),
     }
 }

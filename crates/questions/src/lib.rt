@@ -9,14 +9,10 @@ ghost use Rattle.interface.specs.States.{settingsIn, steeredBy};
 ghost use Rattle.questions.specs.Answers.{meets, bitTold, Steers};
 use interface::ENTRY_COUNT;
 use interface::FLAGS;
-use interface::NUMBERS;
-use messages::MAX_ENTRIES;
 use steering::Steered;
 use toeplitz::HashAnswer;
 use toeplitz::INPUT_TOO_LONG;
-use toeplitz::KEY_LENGTH;
 use toeplitz::KEY_LENGTH_WRONG;
-use toeplitz::TYPE_UNKNOWN;
 use toeplitz::TwoWayAnswer;
 
 // What a question answers that is not refused; and the packet question, which never is.
@@ -60,15 +56,15 @@ pub fn two_way(key: &[u8], hash_type: u32, meet: &mut u32, bit: &mut usize) -> u
             DONE
         }
         TwoWayAnswer::KeyLength => KEY_LENGTH_WRONG,
-        TwoWayAnswer::HashType => TYPE_UNKNOWN,
+        TwoWayAnswer::HashType => toeplitz::TYPE_UNKNOWN,
     }
 }
 
 // Type, hash and queue of a packet under the settings of the interface.
 pub fn steer<'a>(
-    numbers: &'a [u64; NUMBERS],
-    key: &'a [u8; KEY_LENGTH],
-    entries: &'a [u8; MAX_ENTRIES],
+    numbers: &'a [u64; interface::NUMBERS],
+    key: &'a [u8; toeplitz::KEY_LENGTH],
+    entries: &'a [u8; messages::MAX_ENTRIES],
     packet: &[u8],
     hash_type: &mut u32,
     hash: &mut u32,
@@ -92,11 +88,11 @@ pub fn steer<'a>(
         }
         Steered::Hashed {
             hash_type: t,
-            hash: h,
+            hash: value,
             queue: q,
         } => {
             *hash_type = t as u32;
-            *hash = h;
+            *hash = value;
             *queue = q as u32;
             HASHED
         }

@@ -12,16 +12,12 @@ use crate::Answer;
 use crate::Counts;
 use crate::MAX_QUEUES;
 use crate::Report;
-use capture::CAPTURE_HEADER;
 use capture::Link;
 use capture::RECORD_WRONG;
 use capture::Step;
-use messages::MAX_ENTRIES;
-use settings_file::Held;
 use steering::Steered;
-use toeplitz::KEY_LENGTH;
 
-pub(crate) fn count_records(settings: Held, link: Link, captured: &[u8]) -> Report
+pub(crate) fn count_records(settings: settings_file::Held, link: Link, captured: &[u8]) -> Report
     requires { ⌜ Good (settingsHeld settings) × (length (now captured) ≤ maxFile) ⌝ }
     ensures { λ r. ⌜ (reportOf r ≡ reportOver (settingsHeld settings) link (now (captured .entry))) × (r .counts .queues ≤ maxQueues) ⌝ }
 {
@@ -32,7 +28,7 @@ pub(crate) fn count_records(settings: Held, link: Link, captured: &[u8]) -> Repo
     let mut unhashed: u32 = 0;
     let mut records: u32 = 0;
     let mut total: u32 = 0;
-    let mut at = CAPTURE_HEADER;
+    let mut at = capture::CAPTURE_HEADER;
     loop {
         let step = capture::record_at(captured, at);
         match step {
@@ -101,8 +97,8 @@ pub(crate) fn refused(number: u8) -> Report
 // Counts one record on its queue, and answers 1 if it has no hash, else 0.
 fn count_record(
     flags: u8,
-    key: &[u8; KEY_LENGTH],
-    entries: &[u8; MAX_ENTRIES],
+    key: &[u8; toeplitz::KEY_LENGTH],
+    entries: &[u8; messages::MAX_ENTRIES],
     count: u8,
     link: Link,
     frame: &[u8],

@@ -8,11 +8,8 @@ mod count;
 
 use capture::HEADER_WRONG;
 use capture::HeaderAnswer;
-use count::count_records;
 use count::refused;
 pub use settings_file::Answer;
-use settings_file::Held;
-use settings_file::load_settings;
 
 // The refusal of a file that is too long.
 pub const FILE_TOO_LONG: u8 = 23;
@@ -49,7 +46,7 @@ pub fn report_on(settings: &[u8], captured: &[u8]) -> Report
     if captured.len() > MAX_FILE {
         return refused(FILE_TOO_LONG);
     }
-    let loaded = load_settings(settings);
+    let loaded = settings_file::load_settings(settings);
     let answer = loaded.answer;
     match answer {
         Answer::Done => report_under(loaded.settings, captured),
@@ -58,13 +55,13 @@ pub fn report_on(settings: &[u8], captured: &[u8]) -> Report
 }
 
 // The same under settings that are loaded.
-fn report_under(settings: Held, captured: &[u8]) -> Report
+fn report_under(settings: settings_file::Held, captured: &[u8]) -> Report
     requires { ⌜ Good (settingsHeld settings) × (length (now captured) ≤ maxFile) ⌝ }
     ensures { λ r. ⌜ (reportOf r ≡ reportUnder (settingsHeld settings) (now (captured .entry))) × (r .counts .queues ≤ maxQueues) ⌝ }
 {
     let header = link_types::header(captured);
     match header {
-        HeaderAnswer::Good(link) => count_records(settings, link, captured),
+        HeaderAnswer::Good(link) => count::count_records(settings, link, captured),
         HeaderAnswer::Bad => refused(HEADER_WRONG),
     }
 }

@@ -7,7 +7,6 @@ ghost use Rattle.report_text.specs.ReportLines.{longestTally, longestQue
 ghost use Rattle.report_text.specs.ReportLines.{reportLines, reportText};
 use report::Answer;
 use report::Counts;
-use report::Report;
 use text::Text;
 
 // What the program prints for a settings file and a capture.
@@ -18,7 +17,7 @@ pub fn report_text(settings: &[u8], captured: &[u8]) -> Text
 }
 
 // The lines of a report.
-fn report_lines(made: Report) -> Text
+fn report_lines(made: report::Report) -> Text
     requires { ⌜ made .counts .queues ≤ maxQueues ⌝ }
     ensures { λ r. ⌜ Prints r (reportLines (reportOf made)) ⌝ }
 {

@@ -2,10 +2,8 @@
 // kept for the cases behind them.
 ghost use Rattle.octets.specs.Prelude.{length};
 ghost use Rattle.report_vectors.specs.Keeping.{Fits};
-use cases::PARTS;
 use cases::keep;
 use cases::print_cut;
-use cases::take_case;
 
 // The kinds: a settings file, a capture with its report, every cut of the capture, every cut of the settings, and
 // both with zeros behind them.
@@ -39,7 +37,7 @@ fn main() {
         settings: 0,
         captured: 0,
     };
-    for part in 0..PARTS {
+    for part in 0..cases::PARTS {
         // A file that is not there has no case.
         let n = cases::load_part(part, &mut buffer);
         kept = run(&buffer[..n], &mut settings, &mut captured, kept);
@@ -54,7 +52,7 @@ fn run(cases: &[u8], settings: &mut [u8], captured: &mut [u8], before: Kept) -> 
     let mut kept = before;
     let mut at: usize = 0;
     while at < cases.len() {
-        let taken = take_case(cases, at);
+        let taken = cases::take_case(cases, at);
         let start = taken.start;
         let end = taken.end;
         kept = act(settings, captured, kept, taken.kind, &cases[start..end]);

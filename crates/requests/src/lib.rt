@@ -11,10 +11,7 @@ use messages::MAX_ENTRIES;
 use messages::MAX_PAYLOAD;
 use messages::NOT_SUPPORTED;
 use messages::Numbers;
-use messages::SET_FLAGS;
-use messages::SET_KEY;
 use messages::SET_MAPPING;
-use messages::SUCCESS;
 use toeplitz::KEY_LENGTH;
 
 // Carries out the message of type `kind` with `size` octets of payload, of which the first 1,024 are kept, under settings
@@ -74,10 +71,10 @@ fn apply(
     if kind == GET_FLAGS {
         return judging::get_flags(size);
     }
-    if kind == SET_FLAGS {
+    if kind == messages::SET_FLAGS {
         return judging::set_flags(flags, size, payload);
     }
-    if kind == SET_KEY {
+    if kind == messages::SET_KEY {
         return judging::set_key(key, size, payload);
     }
     if kind == SET_MAPPING {
@@ -90,7 +87,7 @@ fn apply(
 fn answer(kind: u32, status: u8) -> Ack
     ensures { λ r. ⌜ r ≡ ackStored (ackPayload (requestOf kind) status) ⌝ }
 {
-    if kind == GET_FLAGS && status == SUCCESS {
+    if kind == GET_FLAGS && status == messages::SUCCESS {
         // What is supported, whatever is set.
         return messages::with_flags(ALL_FLAGS);
     }

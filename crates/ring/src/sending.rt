@@ -3,7 +3,6 @@ ghost use Rattle.octets.specs.Prelude.{_≡_, _+_, _≤_, length};
 ghost use Rattle.page.specs.Page.{areaSize, put};
 ghost use Rattle.ring.specs.Writing.{outgoingOf, fitting, sentOctets};
 use areas::least;
-use areas::write_area;
 
 // Writes as many octets of the message of `size` octets, of which `written` are there, as fit into `room` octets of the
 // area at `area`, from the count `prod` on, and answers how many these are.
@@ -22,6 +21,6 @@ pub fn send(
         (r ≡ fitting o room) × (now (page .exit) ≡ put area (now (page .entry)) prod (sentOctets o r))) ⌝ }
 {
     let n = least(room as u64, (size - written) as u64) as usize;
-    write_area(page, area, prod, &octets[written..written + n]);
+    areas::write_area(page, area, prod, &octets[written..written + n]);
     n as u32
 }

@@ -7,16 +7,10 @@ ghost use Rattle.messages.specs.Requests.{carriedOut};
 ghost use Rattle.interface.specs.States.{setUpOutcome};
 ghost use Rattle.settings_file.specs.Loading.{settingsFrom, settingsOutcome, outcomeOf, settingsHeld};
 ghost use Rattle.settings_file.specs.Inner.{settingsSetUp, LeavesAcked, CarriesFirst, Keeps};
-use interface::ENTRY_COUNT;
-use interface::FLAGS;
-use interface::NUMBERS;
-use interface::QUEUES;
-use interface::SET_UP;
 use messages::HEADER;
 use messages::MAX_ACK;
 use messages::MAX_ENTRIES;
 use messages::MAX_PAYLOAD;
-use messages::SIZE_AT;
 use messages::SUCCESS;
 use toeplitz::KEY_LENGTH;
 
@@ -72,7 +66,7 @@ pub fn load_settings(file: &[u8]) -> Loaded
     let set_up = set_up(queue_count(file));
     let answer = set_up.answer;
     let settings = set_up.settings;
-    if answer != SET_UP {
+    if answer != interface::SET_UP {
         return Loaded {
             answer: Answer::Refused(QUEUES_WRONG),
             settings,
@@ -87,7 +81,7 @@ fn set_up(queues: u32) -> SetUp
         × (settingsHeld (r .settings) ≡ settingsSetUp queues) ⌝ }
 {
     // The placeholder, one queue and one entry, which stays where the number is refused.
-    let mut numbers: [u64; NUMBERS] = [1, 0, 1, 0, 0, 0, 0, 0];
+    let mut numbers: [u64; interface::NUMBERS] = [1, 0, 1, 0, 0, 0, 0, 0];
     let mut header = [0u8; HEADER];
     let mut payload = [0u8; MAX_PAYLOAD];
     let mut ack = [0u8; MAX_ACK];
@@ -105,9 +99,9 @@ fn set_up(queues: u32) -> SetUp
     SetUp {
         answer,
         settings: Held {
-            queues: numbers[QUEUES] as u8,
-            flags: numbers[FLAGS] as u8,
-            count: numbers[ENTRY_COUNT] as u8,
+            queues: numbers[interface::QUEUES] as u8,
+            flags: numbers[interface::FLAGS] as u8,
+            count: numbers[interface::ENTRY_COUNT] as u8,
             key,
             entries,
         },
@@ -165,7 +159,7 @@ fn carry_out_first(settings: Held, file: &[u8]) -> First
         return none_carried(settings);
     }
     let kind = octets::read_u32(file, 0);
-    let size = octets::read_u32(file, SIZE_AT);
+    let size = octets::read_u32(file, messages::SIZE_AT);
     let end = HEADER + size as usize;
     if file.len() < end {
         return none_carried(settings);

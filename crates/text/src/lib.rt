@@ -5,7 +5,6 @@ ghost use Rattle.octets.specs.Prelude.{_≡_, _≤_, length};
 mod line;
 mod piece;
 
-use libc::STDOUT_FILENO;
 pub use line::with_number;
 pub use line::with_refusal;
 pub use piece::with_decimal;
@@ -27,7 +26,7 @@ pub fn print(t: Text) -> bool
 {
     let n = t.length;
     let octets = t.octets;
-    io::write_all(STDOUT_FILENO, &octets[..n])
+    io::write_all(libc::STDOUT_FILENO, &octets[..n])
 }
 
 pub fn empty() -> Text
