@@ -1,5 +1,7 @@
 // The reader of acks. It is told the type of the request that it waits for, since that decides which acks
 // there can be.
+#![tactic(auto)]
+
 ghost use Rattle.octets.specs.Prelude.{◌≡◌};
 ghost use Rattle.messages.specs.Requests.{request_of, carries_flags};
 ghost use Rattle.guest_messages.specs.Reader.{status_allowed, read_ack, ack_outcome_of};

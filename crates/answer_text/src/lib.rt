@@ -1,4 +1,6 @@
 // The end of a packet's line, which more than one test program prints.
+#![tactic(auto)]
+
 use case_tools::print_form;
 use steering::Steered;
 

@@ -1,5 +1,7 @@
 // The guest's writer of requests and reader of acks by number: values go to places that are lent for them, which a refusal leaves
 // as they were.
+#![tactic(auto)]
+
 ghost use Rattle.octets.specs.Prelude.{◌≡◌};
 ghost use Rattle.octets.specs.Outcome.{number_of, placed, itself};
 ghost use Rattle.guest_messages.specs.Writer.{written_outcome_of};

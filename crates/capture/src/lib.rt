@@ -1,5 +1,7 @@
 // Classic libpcap captures: the order of their octets, and the records one after the other. A capture is a stranger's: only what
 // its length covers is looked at, and every length in it is checked before it is used.
+#![tactic(auto)]
+
 mod numbers;
 mod reader;
 mod records;

@@ -1,5 +1,6 @@
 // Reads the files `settings` and `capture`, and prints how many packets and captured octets of the capture go to each
 // queue under those settings, or `refused` and a number.
+#![tactic(auto)]
 
 // One octet more than the longest file, to tell one that is too long.
 const ROOM: usize = report::MAX_FILE + 1;

@@ -1,4 +1,6 @@
 // What the test programs make of the bodies of cases, a page's octets and a mapping's entries, and what their lines are made of.
+#![tactic(auto)]
+
 mod buffer;
 mod entries;
 mod print;

@@ -1,5 +1,7 @@
 // The files that the test programs run, `cases0`, `cases1` and so on: cases one after the other, none of them in two
 // files. A case is its kind, an octet, the length of its body, two octets, and the body.
+#![tactic(auto)]
+
 ghost use Rattle.octets.specs.Prelude.{◌≡◌, ◌+◌, ◌≤◌, ◌<◌, length};
 ghost use Rattle.io.specs.Counts.{IsPrefixLen};
 

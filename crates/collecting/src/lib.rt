@@ -1,4 +1,6 @@
 // The guest's ack collected: octets of it read on, and once it is whole or refused the request ended.
+#![tactic(auto)]
+
 ghost use Rattle.octets.specs.Prelude.{◌≡◌, false, ◌^◌, ◌≤◌, ◌<◌, length, get_or};
 ghost use Rattle.page.specs.Page.{page_size, area_size};
 ghost use Rattle.ring.specs.Reading.{is_whole};

@@ -1,5 +1,7 @@
 // Runs the cases of its files, one file after the other, and prints a line for each setup, event and packet. They act on one
 // interface and one page, one after the other.
+#![tactic(auto)]
+
 ghost use Rattle.octets.specs.Prelude.{◌≡◌, length};
 ghost use Rattle.interface.specs.States.{Good, state_of};
 

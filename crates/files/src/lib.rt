@@ -1,4 +1,6 @@
 // Files that a program reads whole.
+#![tactic(auto)]
+
 ghost use Rattle.io.specs.Counts.{IsPrefixLen};
 
 // Reads the file into the buffer, as far as there is room, and answers how many octets were read. No file counts as an

@@ -1,5 +1,7 @@
 // The guest's part in the cases, and the lines that it prints. A guest is passed by value, and its parts are lent only to the
 // library's call itself.
+#![tactic(auto)]
+
 ghost use Rattle.octets.specs.Prelude.{◌≡◌, ◌≤◌, length};
 ghost use Rattle.guest_steps.specs.Guest.{Good, state_of};
 

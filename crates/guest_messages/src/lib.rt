@@ -1,5 +1,7 @@
 // The guest's messages: the writer of the four requests, and what the reader of acks answers. What is written is judged by form
 // alone: whether a queue number is good is for the host to say.
+#![tactic(auto)]
+
 mod writer;
 
 pub use writer::{write_get_flags, write_set_flags, write_set_key, write_set_mapping};

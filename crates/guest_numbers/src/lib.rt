@@ -1,4 +1,6 @@
 // The answers of the guest's end by their numbers.
+#![tactic(auto)]
+
 ghost use Rattle.octets.specs.Prelude.{◌≡◌, cond};
 ghost use Rattle.guest_steps.specs.Guest.{told_number, told_of, refusal_number, request_owed, pending};
 ghost use Rattle.guest_numbers.specs.Answers.{status_of_told, flags_of_told};

@@ -1,4 +1,6 @@
 // The guest's end of the ring: how its state is stored, what its calls answer, and what a call finds on the page.
+#![tactic(auto)]
+
 mod calls;
 
 pub use calls::find;

@@ -1,5 +1,7 @@
 // Runs the cases of its files, one file after the other, and prints a line for each setup, start and event. They act on one
 // guest, one interface of the host and one page, one after the other.
+#![tactic(auto)]
+
 ghost use Rattle.octets.specs.Prelude.{◌≡◌, length};
 ghost use Rattle.interface.specs.States.{Good, state_of};
 ghost use Rattle.guest_steps.specs.Guest.{Good as GoodGuest, state_of as guest_of};

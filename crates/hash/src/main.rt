@@ -1,5 +1,6 @@
 // Reads 40 key octets and then a hash input from standard input, and prints the hash as eight
 // hexadecimal digits, or `refused` and a number.
+#![tactic(auto)]
 
 // One octet more than the longest input, to tell one that is too long.
 const ROOM: usize = toeplitz::KEY_LENGTH + toeplitz::MAX_INPUT + 1;

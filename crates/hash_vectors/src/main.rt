@@ -1,5 +1,7 @@
 // Runs the cases of its files, one file after the other, and prints a line for each answer. A case's body is the length
 // of its first part, an octet, and then its two parts.
+#![tactic(auto)]
+
 use cases::print_cut;
 
 // The kinds: a hash call on a key and an input, a two-way call on a key and a hash type of one octet, and

@@ -1,4 +1,6 @@
 // The hash call: the XOR of the windows at the set input bits. Key and input are read in place, and no array is made.
+#![tactic(auto)]
+
 ghost use Rattle.octets.specs.Outcome.{value_or};
 ghost use Rattle.octets.specs.Prelude.{◌≡◌, cond, ◌+◌, ◌*◌, ◌<◌, ◌≤◌, length, bit_xor};
 ghost use Rattle.toeplitz.specs.Hash.{key_length, max_input, published_hash, hash_outcome, hash_outcome_of};

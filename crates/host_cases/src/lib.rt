@@ -1,5 +1,7 @@
 // The calls of the host's interface that more than one test program makes, each with the line that it prints. An interface is
 // passed by value, and its parts are lent only to the call itself.
+#![tactic(auto)]
+
 ghost use Rattle.octets.specs.Prelude.{◌≡◌, length};
 ghost use Rattle.interface.specs.States.{Good, state_of};
 

@@ -1,4 +1,6 @@
 // One interface of the host: how its state is stored, its setup, and its packet question.
+#![tactic(auto)]
+
 mod packets;
 mod setup;
 

@@ -1,5 +1,7 @@
 // Each request by itself: its checks in order, and its effect only after the last. It answers its status, and copies only what it
 // replaces.
+#![tactic(auto)]
+
 ghost use Rattle.octets.specs.Prelude.{◌≡◌, length};
 ghost use Rattle.messages.specs.Wire.{max_payload};
 ghost use Rattle.messages.specs.Inner.{GetsFlags, SetsFlags, SetsKey, SetsMapping};

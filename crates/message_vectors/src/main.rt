@@ -1,5 +1,6 @@
 // Runs the cases of its files, one file after the other, and prints a line for each. Cases of requests act on the settings of
 // one interface, one after the other.
+#![tactic(auto)]
 
 mod answers;
 

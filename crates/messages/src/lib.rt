@@ -1,5 +1,7 @@
 // The control messages: their types, statuses and lengths, what the settings of an interface are, and two parts of carrying a
 // request out: the table that a mapping gives, and the ack.
+#![tactic(auto)]
+
 mod acks;
 mod power;
 mod table;

@@ -1,4 +1,6 @@
 // Octets in slices: a copy, and little-endian numbers at a place. What more than one crate needs, and no more.
+#![tactic(auto)]
+
 ghost use Rattle.octets.specs.Prelude.{◌≡◌, ◌+◌, ◌*◌, ◌≤◌, ◌++◌, length, take, drop, sets};
 ghost use Rattle.octets.specs.Numbers.{number_at, octets_of};
 

@@ -1,5 +1,7 @@
 // What an IP packet is, by its length and a few of its octets, and where its hash input stands. The packet is a
 // stranger's: only what its length covers is looked at.
+#![tactic(auto)]
+
 ghost use Rattle.octets.specs.Prelude.{◌≡◌, ◌+◌, ◌*◌, ◌≤◌, ◌<◌, length};
 ghost use Rattle.packet.specs.Packets.{is_ipv4, is_ipv6, is_tcp, is_fragment, is_ipv4_tcp, kind_of, look_at, look_of};
 

@@ -1,5 +1,7 @@
 // Runs the cases of its files, one file after the other, and prints a line for each packet: what it is, and where it
 // goes under the settings before it.
+#![tactic(auto)]
+
 ghost use Rattle.octets.specs.Prelude.{◌≤◌, length};
 
 use case_tools::{print_number, print_word};

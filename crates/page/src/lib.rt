@@ -1,5 +1,7 @@
 // The shared page of a control ring: where its counts and its two areas stand, and the counts themselves. One end writes an area and
 // the other end reads it; the functions are for both, with the places of the counts as parameters.
+#![tactic(auto)]
+
 mod counts;
 
 pub use counts::{unread_by_other, unread_here, write_counts};

@@ -1,5 +1,7 @@
 // The questions by number: the hash, the two-way question, and the packet question of an interface whose parts are lent. Values go
 // to places that are lent for them, which a refusal leaves as they were.
+#![tactic(auto)]
+
 ghost use Rattle.octets.specs.Prelude.{◌≡◌};
 ghost use Rattle.octets.specs.Outcome.{number_of, placed, itself};
 ghost use Rattle.toeplitz.specs.Hash.{hash_outcome};

@@ -1,4 +1,6 @@
 // The report as the lines that the program prints.
+#![tactic(auto)]
+
 ghost use Rattle.octets.specs.Prelude.{◌+◌, ◌*◌, ◌≤◌};
 ghost use Rattle.text.specs.Text.{capacity, Adds, Prints};
 ghost use Rattle.messages.specs.Settings.{max_queues};

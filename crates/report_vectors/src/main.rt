@@ -1,5 +1,7 @@
 // Runs the cases of its files, one file after the other, and prints the report of each. A settings file and a capture are
 // kept for the cases behind them.
+#![tactic(auto)]
+
 ghost use Rattle.octets.specs.Prelude.{length};
 ghost use Rattle.report_vectors.specs.Keeping.{Fits};
 

@@ -1,6 +1,8 @@
 // Which queue a packet goes to, under the settings of an interface: the one question that answers a packet's type,
 // hash and queue together. Nothing is copied: key, table and packet are lent, and the hash input is a part of the
 // packet.
+#![tactic(auto)]
+
 ghost use Rattle.octets.specs.Prelude.{◌≡◌, ◌≤◌, length};
 ghost use Rattle.toeplitz.specs.Hash.{max_input, published_hash};
 ghost use Rattle.toeplitz.specs.TwoWay.{last_type};

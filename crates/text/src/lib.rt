@@ -1,5 +1,7 @@
 // A text that a program prints, built by value piece by piece, so that a function's promise is one equation: the text that it
 // returns is the one that it took with certain octets behind it.
+#![tactic(auto)]
+
 ghost use Rattle.octets.specs.Prelude.{◌≡◌, ◌≤◌, length};
 
 mod line;

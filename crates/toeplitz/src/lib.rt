@@ -1,5 +1,7 @@
 // The Toeplitz hash of a 40-octet key and an input of at most 36 octets: its definitions, the window that slides over the key, and
 // what the hash call and the two-way question answer. Knows nothing of rings or packets.
+#![tactic(auto)]
+
 mod window;
 
 pub use window::{is_set, next_window, octet_window};

@@ -1,5 +1,6 @@
 // Reads a key from standard input, and prints for each hash type whether the two directions of every
 // conversation have one hash, or `refused 8`.
+#![tactic(auto)]
 
 // One octet more than a key, to tell one that is too long.
 const ROOM: usize = toeplitz::KEY_LENGTH + 1;
