@@ -15,6 +15,7 @@ sets_behind [] l a i h = refl
 sets_behind (v ∷ vs) l a i h = sets_behind vs (set l a v) (suc a) i (omega arith) ∙ get_or-set_other l a i v 0 (λ e. omega arith)
 
 sets-at : (vs l : List ℕ) (a k : ℕ) → k < length vs → a + length vs ≤ length l → get_or (sets l a vs) (a + k) 0 ≡ get_or vs k 0
+sets-at [] l a k h room = elim h [ ]
 sets-at (v ∷ vs) l a zero h room = rw add-zero (sets-before vs (set l a v) (suc a) a (omega arith) ∙ get_or-set_same l a v 0 (omega arith))
 sets-at (v ∷ vs) l a (suc k) h room =
     let place : a + suc k ≡ suc a + k = omega arith in

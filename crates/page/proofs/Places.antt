@@ -2,7 +2,7 @@
 -- such a run and another from the area's start.
 use Rattle.octets.specs.Prelude.{◌≡◌, refl, sym, ap, ap₂, ◌∙◌, List, [], ◌∷◌, ◌++◌, append_assoc, ℕ, zero, suc, ◌+◌, ◌-◌, ◌%◌, ◌≤◌, add-zero}
 use Rattle.octets.specs.Prelude.{zero-add, arith, length, get_or, set, take, drop, length-set, length-drop, length-append, take-append-drop, sets}
-use Rattle.octets.specs.Prelude.{sets-eq, length-sets, length-take-le, drop-cons, take_at, drop-drop, take_all}
+use Rattle.octets.specs.Prelude.{sets-eq, length-sets, length-take-le, drop-cons, take_at, drop-drop}
 use borrow.Rule.Slice.PartMut.{put_mid}
 use Rattle.octets.proofs.Copies.{sets-append, sets-all}
 use Rattle.page.specs.Page.{area_size, offsets, octets_in, put}
