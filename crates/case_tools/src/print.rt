@@ -1,14 +1,15 @@
 // What the lines of the test programs are made of.
-use libc::STDOUT_FILENO;
+// Where printed text goes.
+const STDOUT: i32 = 1;
 
 pub fn print_word(word: &[u8]) {
-    io::write_all(STDOUT_FILENO, word);
+    io::write_all(STDOUT, word);
 }
 
 // The decimal digits of a number behind its name.
 pub fn print_number(name: &[u8], n: u64) {
     print_word(name);
-    io::print_decimal(STDOUT_FILENO, n);
+    io::print_decimal(STDOUT, n);
 }
 
 // Prints a line by its form: each `#` stands for the decimal digits of the next number, and each `$` for eight hexadecimal
@@ -37,9 +38,9 @@ fn print_next(mark: u8, numbers: &[u64], next: usize) {
         return;
     }
     if mark == b'#' {
-        io::print_decimal(STDOUT_FILENO, numbers[next]);
+        io::print_decimal(STDOUT, numbers[next]);
     } else {
-        io::print_hex(STDOUT_FILENO, numbers[next], 8);
+        io::print_hex(STDOUT, numbers[next], 8);
     }
 }
 

@@ -5,6 +5,8 @@
 ghost use Rattle.octets.specs.Prelude.{◌≡◌, ◌+◌, ◌≤◌, ◌<◌, length};
 ghost use Rattle.io.specs.Counts.{IsPrefixLen};
 
+use std::rt::Files;
+
 // A case's kind, and where its body stands and ends.
 #[derive(Drop)]
 pub struct Taken {
@@ -12,6 +14,9 @@ pub struct Taken {
     pub start: usize,
     pub end: usize,
 }
+
+// Where printed text goes.
+const STDOUT: i32 = 1;
 
 // Octets before the body.
 const HEAD: usize = 3;
@@ -24,14 +29,14 @@ pub const PARTS: u8 = 10;
 
 // Reads the file with this number behind its name into the buffer, and answers how many octets it has. No file counts as an
 // empty one.
-pub fn load_part(part: u8, buffer: &mut [u8]) -> usize
+pub fn load_part<R: Files>(rt: &R, part: u8, buffer: &mut [u8]) -> usize
     ensures { IsPrefixLen result buffer.new }
 {
     if part >= PARTS {
         return 0;
     }
     let name = [b'c', b'a', b's', b'e', b's', b'0' + part];
-    files::read(&name, buffer)
+    files::read(rt, &name, buffer)
 }
 
 // The case that begins at `at`, so that the cases behind it begin at its end. One that is cut short is told, and has no kind
@@ -69,7 +74,7 @@ fn cut_at(end: usize) -> Taken
 
 // Says that a case is cut short.
 pub fn print_cut() {
-    io::write_all(libc::STDOUT_FILENO, b"cut\n");
+    io::write_all(STDOUT, b"cut\n");
 }
 
 // The number in the two octets from `at` on, the lowest first.

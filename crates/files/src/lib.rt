@@ -2,17 +2,43 @@
 #![tactic(auto)]
 
 ghost use Rattle.io.specs.Counts.{IsPrefixLen};
+ghost use Rattle.std.specs.Prelude.{◌≤◌, length};
+
+use std::fs;
+use std::io::Read;
+use std::rt::Files;
 
 // Reads the file into the buffer, as far as there is room, and answers how many octets were read. No file counts as an
 // empty one.
-pub fn read(name: &[u8], buffer: &mut [u8]) -> usize
+pub fn read<R: Files>(rt: &R, name: &[u8], buffer: &mut [u8]) -> usize
     ensures { IsPrefixLen result buffer.new }
 {
-    let file = os::open_read(name);
-    if file < 0 {
+    let Some(mut file) = open(rt, name) else {
         return 0;
-    }
-    let n = io::read_full(file, buffer);
-    libc::close(file);
+    };
+    let n = read_full(&mut file, buffer);
     n
+}
+
+// The file with this name, if there is one.
+fn open<R: Files>(rt: &R, name: &[u8]) -> Option<R::File> {
+    let path = std::str::from_utf8(name).ok()?;
+    fs::open(rt, path).ok()
+}
+
+// Reads until the buffer is full, the file ends or a read fails, and answers how many octets it put at the start.
+fn read_full<F: Read>(file: &mut F, buffer: &mut [u8]) -> usize
+    ensures { result ≤ length buffer.new }
+{
+    let mut done: usize = 0;
+    while done < buffer.len() {
+        let Ok(n) = file.read(&mut buffer[done..]) else {
+            break;
+        };
+        if n == 0 {
+            break;
+        }
+        done += n;
+    }
+    done
 }
