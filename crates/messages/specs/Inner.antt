@@ -1,7 +1,7 @@
 -- What the private functions promise each other. Nothing here is needed to read the promises of the public calls.
-use Rattle.octets.specs.Prelude.{◌≡◌, List, true, ℕ}
-use Rattle.messages.specs.Settings.{Settings, mapping_of, settings_of}
-use Rattle.messages.specs.Requests.{Request, get_flags, set_flags, set_key, set_mapping, entries_in, all_below, ack_payload, ack_stored, carried_by}
+use Rattle.octets.specs.Prelude.{◌≡◌, List, ℕ}
+use Rattle.messages.specs.Settings.{Settings, settings_of}
+use Rattle.messages.specs.Requests.{Request, get_flags, set_flags, set_key, set_mapping, ack_payload, ack_stored, carried_by}
 
 -- a request of size n with payload p has this status and leaves these settings: with the ack of the status they are what
 -- carrying it out gives
