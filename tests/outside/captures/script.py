@@ -17,7 +17,7 @@ REFUSALS = {6: "queue count", 14: "libpcap", 15: "record", 22: "message", 23: "6
 FAKE_RT = """#!/bin/sh
 printf '%s|%s\\n' "$PWD" "$*" >> "$RT_LOG"
 echo "rt says this"
-[ -z "${RT_MAKES-}" ] || cp "$RT_MAKES" target/bin/capture_report
+[ -z "${RT_MAKES-}" ] || cp "$RT_MAKES" out/capture_report
 exit "${RT_STATUS-0}"
 """
 
@@ -30,11 +30,12 @@ class Place:
         self.elsewhere = folder / "elsewhere"
         self.scratch = folder / "scratch"
         self.made = folder / "made"
-        for path in (self.root / "crates" / "any", self.root / "target" / "bin", self.elsewhere, self.scratch, self.made):
+        self.crate = self.root / "crates" / "capture_report"
+        for path in (self.root / "crates" / "any", self.crate / "out", self.elsewhere, self.scratch, self.made):
             path.mkdir(parents=True)
         self.script = self.root / "report"
         shutil.copy(script, self.script)
-        self.program = self.root / "target" / "bin" / "capture_report"
+        self.program = self.crate / "out" / "capture_report"
         self.source = self.root / "crates" / "any" / "source"
         self.list = self.root / "crates.txt"
         self.spare = folder / "program"
@@ -172,7 +173,7 @@ def wrong_calls(place, checks, settings, capture):
 def builds(place, checks, settings, capture):
     """The program is built where it is missing or older than a file of the crates, and what rt says is hidden."""
     words = [place.write("settings", settings), place.write("capture", capture)]
-    wanted, call = report.text(settings, capture), f"{place.root}|check capture_report\n"
+    wanted, call = report.text(settings, capture), f"{place.crate}|run\n"
     for name, path in (("a newer source", place.source), ("a newer list of crates", place.list), ("no program", None)):
         if path is None:
             place.program.unlink()
