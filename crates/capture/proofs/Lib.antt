@@ -7,4 +7,3 @@ pub mod Found
 pub mod Frames
 pub mod Theorems
 pub mod Exactly
-pub mod Readers

@@ -55,3 +55,6 @@ module _ (xs : List ℕ) (at : ℕ) where
 
       pub step_cut : length xs - at < record_header + n → refused record_wrong ≡ step_at xs at
       step_cut h = bad-step (begins-not (order_of xs) (drop at xs) n captured (inr (rw (length-drop at xs) h)))
+
+-- what `step_at` returns, in the order of its tests
+pub ruleset ends = (step-ended, step-short, step-long, step_cut, step-record)

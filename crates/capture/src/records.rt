@@ -9,6 +9,7 @@ use crate::{MAX_RECORD, RECORD_HEADER, Step};
 const LENGTH_AT: usize = 8;
 
 // What stands at a place of the capture.
+#[tactic(auto, using(crate::proofs::Steps::ends))]
 pub(crate) fn step_at(capture: &[u8], at: usize) -> Step
     ensures { step_outcome_of result ≡ step_at capture.now at }
 {
