@@ -1,0 +1,22 @@
+-- `ring::receiving::receive` meets its contract: reading in two blocks is reading octet by octet.
+use Rattle.octets.specs.Prelude.{arith}
+use Rattle.ring.specs.Reading.{Incoming, incoming_of}
+use Rattle.ring.proofs.Steps.{taken-most, received-blocks}
+use Rattle.ring.proofs.receiving.receive.Goals as goal
+
+pub read_payload-more-requires-clause-n_le_area_size : goal.read_payload-more-requires-clause-n_le_area_size
+read_payload-more-requires-clause-n_le_area_size c =
+    let a = c.args in
+    let side : Incoming = incoming_of a.header.now a.payload.now a.taken a.cons in
+    let read = c.read_header-some.ensures in
+    let within = taken-most a.area a.page.now a.cons a.unread side.message c.read_header-some.new.header _ read.value read.header_after c.requires.2 in
+    (omega arith, within)
+
+pub returns-clause-result_after : goal.returns-clause-result_after
+returns-clause-result_after c =
+    let a = c.args in
+    let side : Incoming = incoming_of a.header.now a.payload.now a.taken a.cons in
+    let read = c.read_header-some.ensures in
+    let more = c.read_payload-more.ensures in
+    received-blocks a.area a.page.now side a.unread c.read_header-some.new.header c.read_payload-more.new.payload _ _ c.requires.2
+    read.value read.header_after more.value (rw c.wrapping_add_u32.ensures.value at more.payload_after)
