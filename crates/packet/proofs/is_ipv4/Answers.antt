@@ -1,0 +1,16 @@
+-- `packet::is_ipv4` meets its contract: the octet is looked at only where the packet is long enough.
+use Rattle.octets.specs.Prelude.{refl, ◌≤◌, ◌<◌, arith, length, le-leb, lt-leb}
+use Rattle.packet.specs.Packets.{is_ipv4}
+use Rattle.packet.proofs.is_ipv4.Goals as goal
+
+pub returns-then-packet-ge-IPV4_LEAST : goal.returns-then-packet-ge-IPV4_LEAST
+unfolding is_ipv4
+returns-then-packet-ge-IPV4_LEAST c =
+    let long : 20 ≤ length c.args.packet.now = omega (arith, c.if-packet-ge-IPV4_LEAST.true) in
+    rw (le-leb _ _ long) refl
+
+pub returns-else-packet-ge-IPV4_LEAST : goal.returns-else-packet-ge-IPV4_LEAST
+unfolding is_ipv4
+returns-else-packet-ge-IPV4_LEAST c =
+    let short : length c.args.packet.now < 20 = omega (arith, c.if-packet-ge-IPV4_LEAST.false) in
+    rw (lt-leb _ _ short) refl
