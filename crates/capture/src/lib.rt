@@ -28,7 +28,7 @@ pub const RECORD_HEADER: usize = 16;
 pub const MAX_RECORD: u32 = 2048;
 
 // The order of the octets of every number in a capture.
-#[derive(Drop)]
+#[derive(Clone, Copy)]
 pub enum Order {
     LowFirst,
     HighFirst,
