@@ -13,6 +13,9 @@ pub use piece::{with_decimal, with_hex, with_octets};
 // The most octets that a text holds: the lines of a report on 64 queues with room to spare.
 pub const CAPACITY: usize = 4608;
 
+// Where printed text goes.
+const STDOUT: i32 = 1;
+
 // The octets of a text are the first `length` ones.
 #[derive(Drop)]
 pub struct Text {
@@ -26,7 +29,7 @@ pub fn print(t: Text) -> bool
 {
     let n = t.length;
     let octets = t.octets;
-    io::write_all(libc::STDOUT_FILENO, &octets[..n])
+    io::write_all(STDOUT, &octets[..n])
 }
 
 pub fn empty() -> Text
