@@ -18,13 +18,13 @@ const PACKET: u8 = 4;
 
 const COUNTS: u8 = 7;
 
-fn main() {
+fn main(rt: HostRuntime) {
     let mut buffer = io::large_buffer();
     let mut page = [0u8; case_tools::BUFFER];
     let mut i = host_cases::first_interface();
     for part in 0..cases::PARTS {
         // A file that is not there has no case.
-        let n = cases::load_part(part, &mut buffer);
+        let n = cases::load_part(&rt, part, &mut buffer);
         i = run(i, &mut page, &buffer[..n]);
     }
 }

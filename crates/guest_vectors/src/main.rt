@@ -32,7 +32,7 @@ struct Ends {
     interface: Interface,
 }
 
-fn main() {
+fn main(rt: HostRuntime) {
     let mut buffer = io::large_buffer();
     let mut page = [0u8; case_tools::BUFFER];
     let mut ends = Ends {
@@ -41,7 +41,7 @@ fn main() {
     };
     for part in 0..cases::PARTS {
         // A file that is not there has no case.
-        let n = cases::load_part(part, &mut buffer);
+        let n = cases::load_part(&rt, part, &mut buffer);
         ends = run(ends, &mut page, &buffer[..n]);
     }
 }

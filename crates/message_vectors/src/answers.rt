@@ -3,6 +3,9 @@ use crate::Settings;
 use case_tools::{digest, print_form, print_number};
 use guest_messages::{AckAnswer, Written};
 
+// Where printed text goes.
+const STDOUT: i32 = 1;
+
 // The octets of the ack, and the settings left.
 pub(crate) fn print_carried(left: Settings, ack_length: u64, ack: &[u8; messages::MAX_ACK]) {
     print_form(b"ack # ", &[ack_length]);
@@ -22,7 +25,7 @@ pub(crate) fn print_carried(left: Settings, ack_length: u64, ack: &[u8; messages
 fn print_octets(octets: &[u8]) {
     let mut i: usize = 0;
     while i < octets.len() {
-        io::print_hex(libc::STDOUT_FILENO, cases::wide(octets[i]) as u64, 2);
+        io::print_hex(STDOUT, cases::wide(octets[i]) as u64, 2);
         i += 1;
     }
 }

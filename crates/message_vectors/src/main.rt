@@ -35,12 +35,12 @@ pub(crate) struct Settings {
     entries: [u8; MAX_ENTRIES],
 }
 
-fn main() {
+fn main(rt: HostRuntime) {
     let mut buffer = io::large_buffer();
     let mut settings = at_setup(1);
     for part in 0..cases::PARTS {
         // A file that is not there has no case.
-        let n = cases::load_part(part, &mut buffer);
+        let n = cases::load_part(&rt, part, &mut buffer);
         settings = run(settings, &buffer[..n]);
     }
 }
