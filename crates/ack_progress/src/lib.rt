@@ -1,7 +1,8 @@
 // How far the ack has come that is being read: a part of it, one that is refused, or a whole one and what it says.
 #![tactic(auto)]
 
-ghost use Rattle.octets.specs.Prelude.{◌≡◌, ◌++◌, ◌≤◌, take};
+ghost use Rattle.std.specs.Prelude.{◌≡◌, ◌++◌, ◌≤◌};
+ghost use Rattle.octets.specs.Prelude.{take};
 ghost use Rattle.guest_messages.specs.Reader.{read_ack};
 ghost use Rattle.guest_steps.specs.Guest.{max_ack_payload};
 ghost use Rattle.guest_steps.specs.Calls.{judged, seen};

@@ -2,7 +2,7 @@
 // there can be.
 #![tactic(auto)]
 
-ghost use Rattle.octets.specs.Prelude.{◌≡◌};
+ghost use Rattle.std.specs.Prelude.{◌≡◌};
 ghost use Rattle.messages.specs.Requests.{request_of, carries_flags};
 ghost use Rattle.guest_messages.specs.Reader.{status_allowed, read_ack, ack_outcome_of};
 

@@ -1,7 +1,8 @@
 // Answers of the hash and of the two-way question as the lines that the programs print.
 #![tactic(auto)]
 
-ghost use Rattle.octets.specs.Prelude.{◌≡◌, ◌++◌, ◌+◌, ◌≤◌, min, length};
+ghost use Rattle.std.specs.Prelude.{◌≡◌, ◌++◌, ◌+◌, ◌≤◌};
+ghost use Rattle.octets.specs.Prelude.{min, length};
 ghost use Rattle.toeplitz.specs.Hash.{key_length, hash_outcome_of};
 ghost use Rattle.toeplitz.specs.TwoWay.{two_way_outcome_of};
 ghost use Rattle.text.specs.Text.{capacity, longest_line, longest_type_line, Adds, Prints};

@@ -1,7 +1,8 @@
 // Octets of an area of the page by their counts. They may fall into two parts: up to the area's end, and on from its start.
 #![tactic(auto)]
 
-ghost use Rattle.octets.specs.Prelude.{◌≡◌, ◌+◌, ◌≤◌, min, length, take, drop, sets};
+ghost use Rattle.std.specs.Prelude.{◌≡◌, ◌+◌, ◌≤◌};
+ghost use Rattle.octets.specs.Prelude.{min, length, take, drop, sets};
 ghost use Rattle.page.specs.Page.{area_size, octets_in, put};
 
 use page::AREA;

@@ -1,5 +1,6 @@
 -- What the theorems on an event speak of.
-use Rattle.octets.specs.Prelude.{◌≡◌, List, ◌⊎◌, true, false, ℕ, ◌+◌, ◌-◌, ◌%◌, ◌≤◌, ◌<◌, length}
+use Rattle.std.specs.Prelude.{◌≡◌, ◌⊎◌, ◌+◌, ◌-◌, ◌%◌, ◌≤◌, ◌<◌}
+use Rattle.octets.specs.Prelude.{List, true, false, ℕ, length}
 use Rattle.page.specs.Page.{page_size, area_size, req_prod_at, rsp_prod_at, requests_at, responses_at}
 use Rattle.ring.specs.Reading.{whole}
 use Rattle.interface.specs.Events.{After, unread, unread_acks, owes, read_in}

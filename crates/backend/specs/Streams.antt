@@ -1,5 +1,6 @@
 -- Events one after the other: the stream of octets that they read, the messages into which it falls, and the acks.
-use Rattle.octets.specs.Prelude.{◌≡◌, List, [], ◌∷◌, ◌++◌, cond, ℕ, zero, suc, ◌≤◌, length, take, drop}
+use Rattle.std.specs.Prelude.{◌≡◌, ◌∷◌, ◌++◌, ◌≤◌}
+use Rattle.octets.specs.Prelude.{List, [], cond, ℕ, zero, suc, length, take, drop}
 use Rattle.messages.specs.Settings.{max_queues, settings_at_setup, Settings}
 use Rattle.messages.specs.Requests.{ack_in, carried_message}
 use Rattle.page.specs.Page.{requests_at, responses_at, less, octets_in}

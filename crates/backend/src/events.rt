@@ -1,7 +1,8 @@
 // The event of an interface's control ring: the counts are checked first, then an ack that is owed goes before
 // anything is read, and a request is carried out once it is whole. The work is done in place, on the parts of an
 // interface as they are lent, so that an event copies only what it moves.
-ghost use Rattle.octets.specs.Prelude.{◌≡◌, ◌≤◌, ◌<◌, length};
+ghost use Rattle.std.specs.Prelude.{◌≡◌, ◌≤◌, ◌<◌};
+ghost use Rattle.octets.specs.Prelude.{length};
 ghost use Rattle.page.specs.Page.{page_size, area_size};
 ghost use Rattle.interface.specs.States.{Good, interface_in};
 ghost use Rattle.interface.specs.Events.{left, proceeded, event_of};

@@ -1,6 +1,7 @@
 -- How a call tells what the call behind it answers: a number as its result, and values in places. A place that nothing is put
 -- into, as where a call is refused, is as it was before.
-use Rattle.octets.specs.Prelude.{◌≡◌, List, ℕ}
+use Rattle.std.specs.Prelude.{◌≡◌}
+use Rattle.octets.specs.Prelude.{List, ℕ}
 use Rattle.octets.specs.Outcome.{Outcome, number_of, placed, itself}
 use Rattle.guest_messages.specs.Writer.{written}
 use Rattle.guest_messages.specs.Reader.{Reading, status, status_and_flags}

@@ -2,7 +2,7 @@
 // as they were.
 #![tactic(auto)]
 
-ghost use Rattle.octets.specs.Prelude.{◌≡◌};
+ghost use Rattle.std.specs.Prelude.{◌≡◌};
 ghost use Rattle.octets.specs.Outcome.{number_of, placed, itself};
 ghost use Rattle.guest_messages.specs.Writer.{written_outcome_of};
 ghost use Rattle.guest_messages.specs.Reader.{read_ack};

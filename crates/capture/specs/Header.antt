@@ -2,7 +2,8 @@
 --   0 magic number (4)   4 major version (2)   6 minor version (2)   8 time zone (4)   12 accuracy (4)
 --   16 snapshot length (4)   20 link type (4)
 -- Its numbers, and those of every record's header, are in the order in which the magic number was written.
-use Rattle.octets.specs.Prelude.{List, Bool, cond, ◌&&◌, ℕ, zero, suc, ◌+◌, ◌*◌, ◌^◌, length, get_or, eqb, leb}
+use Rattle.std.specs.Prelude.{◌&&◌, ◌+◌, ◌*◌, ◌^◌}
+use Rattle.octets.specs.Prelude.{List, Bool, cond, ℕ, zero, suc, length, get_or, eqb, leb}
 use Rattle.octets.specs.Outcome.{Outcome, value, refused}
 use Rattle.octets.specs.Numbers.{number_at}
 use Rattle.capture.specs.declared.Order.{Order}

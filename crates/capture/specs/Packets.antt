@@ -1,5 +1,6 @@
 -- The IP packet in a record.
-use Rattle.octets.specs.Prelude.{List, [], Bool, cond, ◌&&◌, ◌||◌, ℕ, length, drop, eqb, leb}
+use Rattle.std.specs.Prelude.{◌&&◌, ◌||◌}
+use Rattle.octets.specs.Prelude.{List, [], Bool, cond, ℕ, length, drop, eqb, leb}
 use Rattle.capture.specs.Header.{big_endian_at}
 use Rattle.capture.specs.declared.Link.{Link}
 use Rattle.capture.specs.declared.Link.TheVariants.{Ethernet, Raw}

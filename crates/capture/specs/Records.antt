@@ -1,7 +1,8 @@
 -- The records of a capture, one after the other behind its header. A record is a header of 16 octets and then the
 -- captured octets:
 --   0 seconds (4)   4 microseconds (4)   8 captured length (4)   12 original length (4)   16 captured octets
-use Rattle.octets.specs.Prelude.{◌≡◌, List, [], ◌∷◌, ◌++◌, Bool, cond, ◌&&◌, ℕ, zero, suc, ◌+◌, ◌≤◌, length, take, drop, eqb, leb}
+use Rattle.std.specs.Prelude.{◌≡◌, ◌∷◌, ◌++◌, ◌&&◌, ◌+◌, ◌≤◌}
+use Rattle.octets.specs.Prelude.{List, [], Bool, cond, ℕ, zero, suc, length, take, drop, eqb, leb}
 use Rattle.octets.specs.Outcome.{Outcome, value, refused}
 use Rattle.capture.specs.Header.{capture_header, number_in, order_of}
 use Rattle.capture.specs.declared.Order.{Order}

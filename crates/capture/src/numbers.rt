@@ -1,5 +1,6 @@
 // The order of the octets in a capture, and numbers in this order.
-ghost use Rattle.octets.specs.Prelude.{◌≡◌, ◌+◌, ◌≤◌, length};
+ghost use Rattle.std.specs.Prelude.{◌≡◌, ◌+◌, ◌≤◌};
+ghost use Rattle.octets.specs.Prelude.{length};
 ghost use Rattle.capture.specs.Header.{number_in, order_of};
 
 use crate::{MAGIC, MAGIC_AT, Order};

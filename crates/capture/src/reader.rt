@@ -1,6 +1,6 @@
 // The reader that goes from record to record: a struct that holds the octets of a capture and its place in them. The
 // functions over it are thin; the work is done by `step_at`, on a slice and a number.
-ghost use Rattle.octets.specs.Prelude.{◌≡◌};
+ghost use Rattle.std.specs.Prelude.{◌≡◌};
 ghost use Rattle.capture.specs.Header.{capture_header};
 ghost use Rattle.capture.specs.Records.{step_at, step_outcome_of};
 

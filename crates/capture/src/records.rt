@@ -1,5 +1,5 @@
 // One record: a header of 16 octets, of which only the captured length is looked at, and the captured octets.
-ghost use Rattle.octets.specs.Prelude.{◌≡◌};
+ghost use Rattle.std.specs.Prelude.{◌≡◌};
 ghost use Rattle.capture.specs.Records.{step_at, step_outcome_of};
 
 use crate::numbers::{order_of, u32_at};

@@ -1,5 +1,5 @@
 // The entries of a mapping that a case gives.
-ghost use Rattle.octets.specs.Prelude.{◌≤◌};
+ghost use Rattle.std.specs.Prelude.{◌≤◌};
 
 // The most entries of a case.
 pub const MAX_GIVEN: usize = 256;

@@ -2,7 +2,8 @@
 // files. A case is its kind, an octet, the length of its body, two octets, and the body.
 #![tactic(auto)]
 
-ghost use Rattle.octets.specs.Prelude.{◌≡◌, ◌+◌, ◌≤◌, ◌<◌, length};
+ghost use Rattle.std.specs.Prelude.{◌≡◌, ◌+◌, ◌≤◌, ◌<◌};
+ghost use Rattle.octets.specs.Prelude.{length};
 ghost use Rattle.io.specs.Counts.{IsPrefixLen};
 
 use std::rt::Files;

@@ -1,7 +1,8 @@
 // The guest's ack collected: octets of it read on, and once it is whole or refused the request ended.
 #![tactic(auto)]
 
-ghost use Rattle.octets.specs.Prelude.{◌≡◌, false, ◌^◌, ◌≤◌, ◌<◌, length, get_or};
+ghost use Rattle.std.specs.Prelude.{◌≡◌, ◌^◌, ◌≤◌, ◌<◌};
+ghost use Rattle.octets.specs.Prelude.{false, length, get_or};
 ghost use Rattle.page.specs.Page.{page_size, area_size};
 ghost use Rattle.ring.specs.Reading.{is_whole};
 ghost use Rattle.guest_steps.specs.Inner.{Collects};

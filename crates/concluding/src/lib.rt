@@ -1,7 +1,8 @@
 // The end of an event that has read: a request that is whole is carried out, and as much of its ack written as fits.
 #![tactic(auto)]
 
-ghost use Rattle.octets.specs.Prelude.{◌≡◌, ◌^◌, ◌≤◌, ◌<◌, length, get_or};
+ghost use Rattle.std.specs.Prelude.{◌≡◌, ◌^◌, ◌≤◌, ◌<◌};
+ghost use Rattle.octets.specs.Prelude.{length, get_or};
 ghost use Rattle.messages.specs.Settings.{Good as GoodSettings};
 ghost use Rattle.page.specs.Page.{page_size, area_size};
 ghost use Rattle.ring.specs.Reading.{whole};

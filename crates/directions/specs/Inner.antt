@@ -1,5 +1,6 @@
 -- What the search for a difference promises. Nothing here is needed to read the promise of the call.
-use Rattle.octets.specs.Prelude.{◌≡◌, List, ℕ, ◌+◌, ◌<◌}
+use Rattle.std.specs.Prelude.{◌≡◌, ◌+◌, ◌<◌}
+use Rattle.octets.specs.Prelude.{List, ℕ}
 use Rattle.toeplitz.specs.Hash.{window_at}
 use Rattle.directions.specs.declared.Found.{Found}
 use Rattle.directions.specs.declared.Found.TheVariants.{At, Nothing}

@@ -2,7 +2,8 @@
 // input's bit and its place in the reverse count alike exactly where their windows are equal.
 #![tactic(auto)]
 
-ghost use Rattle.octets.specs.Prelude.{◌≡◌, ◌+◌, ◌*◌, ◌≤◌, length};
+ghost use Rattle.std.specs.Prelude.{◌≡◌, ◌+◌, ◌*◌, ◌≤◌};
+ghost use Rattle.octets.specs.Prelude.{length};
 ghost use Rattle.toeplitz.specs.Hash.{key_length, max_input};
 ghost use Rattle.toeplitz.specs.TwoWay.{last_type, address_size, port_size, two_way_outcome, two_way_outcome_of};
 ghost use Rattle.directions.specs.Inner.{FoundIn};

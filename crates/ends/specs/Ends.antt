@@ -1,5 +1,6 @@
 -- The two ends of a ring and the page between them: the guest starts a request, and then host and guest take turns.
-use Rattle.octets.specs.Prelude.{◌≡◌, List, [], ◌∷◌, false, cond, ℕ, zero, suc, length, replicate, leb}
+use Rattle.std.specs.Prelude.{◌≡◌, ◌∷◌}
+use Rattle.octets.specs.Prelude.{List, [], false, cond, ℕ, zero, suc, length, replicate, leb}
 use Rattle.octets.specs.Outcome.{Outcome, value}
 use Rattle.messages.specs.Wire.{type_in}
 use Rattle.messages.specs.Requests.{request_of, ack_status, carried_message}

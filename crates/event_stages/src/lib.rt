@@ -1,7 +1,8 @@
 // The stages of an event, each on the parts of an interface that it touches.
 #![tactic(auto)]
 
-ghost use Rattle.octets.specs.Prelude.{◌≡◌, false, ◌^◌, ◌≤◌, ◌<◌, length, get_or};
+ghost use Rattle.std.specs.Prelude.{◌≡◌, ◌^◌, ◌≤◌, ◌<◌};
+ghost use Rattle.octets.specs.Prelude.{false, length, get_or};
 ghost use Rattle.messages.specs.Requests.{max_ack};
 ghost use Rattle.page.specs.Page.{page_size, area_size};
 ghost use Rattle.ring.specs.Reading.{whole};

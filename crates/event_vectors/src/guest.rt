@@ -1,5 +1,6 @@
 // What the guest does to the page between the calls.
-ghost use Rattle.octets.specs.Prelude.{◌≡◌, length};
+ghost use Rattle.std.specs.Prelude.{◌≡◌};
+ghost use Rattle.octets.specs.Prelude.{length};
 
 use cases::print_cut;
 use page::{REQ_PROD, RSP_CONS};

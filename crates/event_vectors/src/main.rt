@@ -2,7 +2,8 @@
 // interface and one page, one after the other.
 #![tactic(auto)]
 
-ghost use Rattle.octets.specs.Prelude.{◌≡◌, length};
+ghost use Rattle.std.specs.Prelude.{◌≡◌};
+ghost use Rattle.octets.specs.Prelude.{length};
 ghost use Rattle.interface.specs.States.{Good, state_of};
 
 mod guest;

@@ -1,5 +1,6 @@
 -- What the theorems on the guest's calls speak of.
-use Rattle.octets.specs.Prelude.{◌≡◌, List, ◌⊎◌, true, false, ℕ, ◌+◌, ◌-◌, ◌%◌, ◌≤◌, ◌<◌, length}
+use Rattle.std.specs.Prelude.{◌≡◌, ◌⊎◌, ◌+◌, ◌-◌, ◌%◌, ◌≤◌, ◌<◌}
+use Rattle.octets.specs.Prelude.{List, true, false, ℕ, length}
 use Rattle.octets.specs.Outcome.{Outcome, refused}
 use Rattle.messages.specs.Wire.{type_in}
 use Rattle.page.specs.Page.{page_size, area_size, req_prod_at, rsp_prod_at, requests_at, responses_at, less, octets_in}

@@ -1,6 +1,6 @@
 // The event of the guest's end, on the parts of a guest as they are lent: octets of the request that are owed go first, and
 // once all are written the ack is collected.
-ghost use Rattle.octets.specs.Prelude.{◌≡◌};
+ghost use Rattle.std.specs.Prelude.{◌≡◌};
 ghost use Rattle.guest_steps.specs.Guest.{Good, guest_in};
 ghost use Rattle.guest_steps.specs.Calls.{left, event_of};
 

@@ -1,5 +1,5 @@
 // A new guest, written in place.
-ghost use Rattle.octets.specs.Prelude.{◌≡◌};
+ghost use Rattle.std.specs.Prelude.{◌≡◌};
 ghost use Rattle.guest_steps.specs.Guest.{guest_in, guest_at_setup};
 
 use guest_steps::{MAX_ACK_PAYLOAD, MAX_REQUEST, NUMBERS};

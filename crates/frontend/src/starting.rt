@@ -1,6 +1,6 @@
 // The start of a request, on the parts of a guest as they are lent. The checks come first, then the writer puts the request
 // into its place, where nothing of another one is kept, and as much of it as fits goes to the page.
-ghost use Rattle.octets.specs.Prelude.{◌≡◌};
+ghost use Rattle.std.specs.Prelude.{◌≡◌};
 ghost use Rattle.guest_steps.specs.Guest.{Good, guest_in};
 ghost use Rattle.guest_steps.specs.Calls.{left_by, message_of, start_of};
 

@@ -1,7 +1,7 @@
 // The guest's calls on the parts of a guest as they are lent, each by the number of its answer: what the exported calls lend to.
 #![tactic(auto)]
 
-ghost use Rattle.octets.specs.Prelude.{◌≡◌};
+ghost use Rattle.std.specs.Prelude.{◌≡◌};
 ghost use Rattle.guest_messages.specs.Writer.{get_flags_message, set_flags_message, set_key_message, set_mapping_message};
 ghost use Rattle.guest_steps.specs.Guest.{Good, guest_in};
 ghost use Rattle.guest_steps.specs.Calls.{start_of, event_of};

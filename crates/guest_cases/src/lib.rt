@@ -2,7 +2,8 @@
 // library's call itself.
 #![tactic(auto)]
 
-ghost use Rattle.octets.specs.Prelude.{◌≡◌, ◌≤◌, length};
+ghost use Rattle.std.specs.Prelude.{◌≡◌, ◌≤◌};
+ghost use Rattle.octets.specs.Prelude.{length};
 ghost use Rattle.guest_steps.specs.Guest.{Good, state_of};
 
 use case_tools::print_number;

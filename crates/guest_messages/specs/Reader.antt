@@ -1,5 +1,6 @@
 -- The guest's ack reader.
-use Rattle.octets.specs.Prelude.{List, ◌++◌, Bool, true, cond, ◌&&◌, ℕ, ◌+◌, length, eqb, leb}
+use Rattle.std.specs.Prelude.{◌++◌, ◌&&◌, ◌+◌}
+use Rattle.octets.specs.Prelude.{List, Bool, true, cond, ℕ, length, eqb, leb}
 use Rattle.octets.specs.Numbers.{octets_of}
 use Rattle.octets.specs.Outcome.{Outcome, value, refused}
 use Rattle.messages.specs.Wire.{header_size, field_size, message, type_in, size_in, status_in, ack_flags_in, ack_type}

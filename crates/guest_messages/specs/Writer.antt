@@ -1,5 +1,6 @@
 -- The guest's message writer: the four requests, and what it answers and leaves in the output buffer.
-use Rattle.octets.specs.Prelude.{List, [], ◌∷◌, ◌++◌, cond, ℕ, length, drop, eqb, leb}
+use Rattle.std.specs.Prelude.{◌∷◌, ◌++◌}
+use Rattle.octets.specs.Prelude.{List, [], cond, ℕ, length, drop, eqb, leb}
 use Rattle.octets.specs.Numbers.{octets_of}
 use Rattle.octets.specs.Outcome.{Outcome, value, refused}
 use Rattle.toeplitz.specs.Hash.{key_length}

@@ -1,6 +1,7 @@
 // The writer: each request's checks, then the room in the buffer, and only then the message. The header is
 // written first and the payload behind it, each into its own part of the buffer.
-ghost use Rattle.octets.specs.Prelude.{◌≡◌, ◌++◌, ◌*◌, ◌≤◌, length, drop};
+ghost use Rattle.std.specs.Prelude.{◌≡◌, ◌++◌, ◌*◌, ◌≤◌};
+ghost use Rattle.octets.specs.Prelude.{length, drop};
 ghost use Rattle.messages.specs.Wire.{header_size, field_size, header};
 ghost use Rattle.messages.specs.Settings.{is_listed};
 ghost use Rattle.guest_messages.specs.Writer.{fields_of, get_flags_message, set_flags_message, set_key_message, set_mapping_message, after, written};

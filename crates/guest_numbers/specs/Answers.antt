@@ -1,5 +1,6 @@
 -- How a call of the guest's end tells by number what it answers, and what it leaves.
-use Rattle.octets.specs.Prelude.{◌≡◌, List, ℕ}
+use Rattle.std.specs.Prelude.{◌≡◌}
+use Rattle.octets.specs.Prelude.{List, ℕ}
 use Rattle.guest_steps.specs.Guest.{GuestState, Told, number, acked, told_number}
 use Rattle.guest_steps.specs.Calls as guest
 use Rattle.by_number.specs.Answers.{status_told, flags_told}

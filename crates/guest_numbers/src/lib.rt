@@ -1,7 +1,8 @@
 // The answers of the guest's end by their numbers.
 #![tactic(auto)]
 
-ghost use Rattle.octets.specs.Prelude.{◌≡◌, cond};
+ghost use Rattle.std.specs.Prelude.{◌≡◌};
+ghost use Rattle.octets.specs.Prelude.{cond};
 ghost use Rattle.guest_steps.specs.Guest.{told_number, told_of, refusal_number, request_owed, pending};
 ghost use Rattle.guest_numbers.specs.Answers.{status_of_told, flags_of_told};
 

@@ -1,7 +1,8 @@
 // The stages of a start: what it finds, the request put into its place, the request begun, and the number that it answers.
 #![tactic(auto)]
 
-ghost use Rattle.octets.specs.Prelude.{◌≡◌, ◌^◌, ◌≤◌, ◌<◌, length, get_or};
+ghost use Rattle.std.specs.Prelude.{◌≡◌, ◌^◌, ◌≤◌, ◌<◌};
+ghost use Rattle.octets.specs.Prelude.{length, get_or};
 ghost use Rattle.page.specs.Page.{page_size, area_size};
 ghost use Rattle.guest_messages.specs.Writer.{after, written};
 ghost use Rattle.guest_steps.specs.Guest.{max_request};

@@ -1,5 +1,6 @@
 -- The calls of the guest's end, a start for each request and the event: the answer, the state and every octet of the page.
-use Rattle.octets.specs.Prelude.{List, ◌++◌, Bool, not, cond, ◌&&◌, ◌||◌, ℕ, ◌+◌, ◌-◌, length, take, drop, eqb, leb}
+use Rattle.std.specs.Prelude.{◌++◌, ◌&&◌, ◌||◌, ◌+◌, ◌-◌}
+use Rattle.octets.specs.Prelude.{List, Bool, not, cond, ℕ, length, take, drop, eqb, leb}
 use Rattle.octets.specs.Outcome.{Outcome, value, refused}
 use Rattle.messages.specs.Wire.{header_size, field_size, type_in, size_in}
 use Rattle.page.specs.Refusals.{page_wrong, requests_wrong, responses_wrong}

@@ -1,5 +1,6 @@
 -- The guest's end of the ring: its state, at setup and from then on, and what its calls answer.
-use Rattle.octets.specs.Prelude.{◌≡◌, List, Bool, ℕ, ◌≤◌, ◌<◌, get_or, replicate, ltb}
+use Rattle.std.specs.Prelude.{◌≡◌, ◌≤◌, ◌<◌}
+use Rattle.octets.specs.Prelude.{List, Bool, ℕ, get_or, replicate, ltb}
 use Rattle.messages.specs.Wire.{header_size, success}
 use Rattle.page.specs.Refusals.{page_wrong, requests_wrong, responses_wrong}
 use Rattle.ring.specs.Reading.{incoming_of, GoodIncoming, Incoming}

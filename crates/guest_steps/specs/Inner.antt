@@ -1,5 +1,6 @@
 -- What the inner functions promise: no part of the public promise.
-use Rattle.octets.specs.Prelude.{◌≡◌, List, Bool, true, false, ℕ, length, get_or, set}
+use Rattle.std.specs.Prelude.{◌≡◌}
+use Rattle.octets.specs.Prelude.{List, Bool, true, false, ℕ, length, get_or, set}
 use Rattle.octets.specs.Outcome.{Outcome, value, refused}
 use Rattle.messages.specs.Wire.{type_in, success}
 use Rattle.guest_messages.specs.Refusals.{not_an_ack}

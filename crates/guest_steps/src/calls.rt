@@ -1,5 +1,6 @@
 // What a call of the guest's end finds on the page.
-ghost use Rattle.octets.specs.Prelude.{◌≡◌, ◌^◌, ◌<◌, length, get_or};
+ghost use Rattle.std.specs.Prelude.{◌≡◌, ◌^◌, ◌<◌};
+ghost use Rattle.octets.specs.Prelude.{length, get_or};
 ghost use Rattle.page.specs.Page.{page_size, req_cons_at, rsp_prod_at, count_in, less};
 ghost use Rattle.guest_steps.specs.Inner.{Finds};
 

@@ -2,7 +2,8 @@
 // guest, one interface of the host and one page, one after the other.
 #![tactic(auto)]
 
-ghost use Rattle.octets.specs.Prelude.{◌≡◌, length};
+ghost use Rattle.std.specs.Prelude.{◌≡◌};
+ghost use Rattle.octets.specs.Prelude.{length};
 ghost use Rattle.interface.specs.States.{Good, state_of};
 ghost use Rattle.guest_steps.specs.Guest.{Good as GoodGuest, state_of as guest_of};
 

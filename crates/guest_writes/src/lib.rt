@@ -1,7 +1,8 @@
 // What a call of the guest's end writes: the request on, both own counts, and the numbers that it keeps.
 #![tactic(auto)]
 
-ghost use Rattle.octets.specs.Prelude.{◌≡◌, [], ◌^◌, ◌≤◌, ◌<◌, length, get_or};
+ghost use Rattle.std.specs.Prelude.{◌≡◌, ◌^◌, ◌≤◌, ◌<◌};
+ghost use Rattle.octets.specs.Prelude.{[], length, get_or};
 ghost use Rattle.page.specs.Page.{page_size, area_size, counted_by_guest};
 ghost use Rattle.ring.specs.Writing.{GoodOutgoing};
 ghost use Rattle.guest_steps.specs.Guest.{max_request, guest_in, outgoing};

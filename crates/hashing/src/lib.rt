@@ -2,7 +2,8 @@
 #![tactic(auto)]
 
 ghost use Rattle.octets.specs.Outcome.{value_or};
-ghost use Rattle.octets.specs.Prelude.{◌≡◌, cond, ◌+◌, ◌*◌, ◌<◌, ◌≤◌, length, bit_xor};
+ghost use Rattle.std.specs.Prelude.{◌≡◌, ◌+◌, ◌*◌, ◌<◌, ◌≤◌};
+ghost use Rattle.octets.specs.Prelude.{cond, length, bit_xor};
 ghost use Rattle.toeplitz.specs.Hash.{key_length, max_input, published_hash, hash_outcome, hash_outcome_of};
 ghost use Rattle.toeplitz.specs.Inner.{hash_below};
 

@@ -1,5 +1,6 @@
 -- One event: its answer, the state and every octet of the page that it leaves.
-use Rattle.octets.specs.Prelude.{List, Bool, cond, ℕ, ◌-◌, length, eqb, leb, ltb}
+use Rattle.std.specs.Prelude.{◌-◌}
+use Rattle.octets.specs.Prelude.{List, Bool, cond, ℕ, length, eqb, leb, ltb}
 use Rattle.messages.specs.Wire.{type_in, size_in}
 use Rattle.messages.specs.Requests.{carried_out, Carried}
 use Rattle.page.specs.Refusals.{page_wrong, requests_wrong, responses_wrong}

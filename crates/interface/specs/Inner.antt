@@ -1,6 +1,7 @@
 -- What the inner functions promise: no part of the public promise. Each speaks of the parts that it is lent, and holds
 -- whatever the others are.
-use Rattle.octets.specs.Prelude.{◌≡◌, List, ℕ}
+use Rattle.std.specs.Prelude.{◌≡◌}
+use Rattle.octets.specs.Prelude.{List, ℕ}
 use Rattle.interface.specs.States.{interface_in}
 use Rattle.interface.specs.Events.{responded, read_in, left}
 

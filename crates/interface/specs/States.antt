@@ -1,5 +1,6 @@
 -- The state of an interface: what setup answers, what holds of every state from then on, and the packet question.
-use Rattle.octets.specs.Prelude.{◌≡◌, List, cond, ◌&&◌, ℕ, ◌<◌, get_or, leb}
+use Rattle.std.specs.Prelude.{◌≡◌, ◌&&◌, ◌<◌}
+use Rattle.octets.specs.Prelude.{List, cond, ℕ, get_or, leb}
 use Rattle.octets.specs.Outcome.{Outcome, value, refused}
 use Rattle.messages.specs.Wire.{max_payload}
 use Rattle.messages.specs.Requests.{max_ack}

@@ -1,5 +1,6 @@
 // The packet question of an interface.
-ghost use Rattle.octets.specs.Prelude.{◌≡◌, true, take};
+ghost use Rattle.std.specs.Prelude.{◌≡◌};
+ghost use Rattle.octets.specs.Prelude.{true, take};
 ghost use Rattle.messages.specs.Settings.{is_listed};
 ghost use Rattle.steering.specs.Steering.{choice_of, steered};
 

@@ -1,5 +1,5 @@
 // A new interface, written in place.
-ghost use Rattle.octets.specs.Prelude.{◌≡◌};
+ghost use Rattle.std.specs.Prelude.{◌≡◌};
 ghost use Rattle.octets.specs.Outcome.{number_of, placed, itself};
 ghost use Rattle.interface.specs.States.{interface_in, set_up_outcome};
 

@@ -2,7 +2,8 @@
 // replaces.
 #![tactic(auto)]
 
-ghost use Rattle.octets.specs.Prelude.{◌≡◌, length};
+ghost use Rattle.std.specs.Prelude.{◌≡◌};
+ghost use Rattle.octets.specs.Prelude.{length};
 ghost use Rattle.messages.specs.Wire.{max_payload};
 ghost use Rattle.messages.specs.Inner.{GetsFlags, SetsFlags, SetsKey, SetsMapping};
 

@@ -1,7 +1,8 @@
 // What the records of a capture hold, as its header tells it, and the IP packet in a record of that kind.
 #![tactic(auto)]
 
-ghost use Rattle.octets.specs.Prelude.{◌≡◌, ◌≤◌, length};
+ghost use Rattle.std.specs.Prelude.{◌≡◌, ◌≤◌};
+ghost use Rattle.octets.specs.Prelude.{length};
 ghost use Rattle.capture.specs.Header.{capture_header, is_classic, link_outcome, header_outcome, header_outcome_of};
 ghost use Rattle.capture.specs.Packets.{holds_ip, ip_part};
 

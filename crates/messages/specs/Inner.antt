@@ -1,5 +1,6 @@
 -- What the private functions promise each other. Nothing here is needed to read the promises of the public calls.
-use Rattle.octets.specs.Prelude.{◌≡◌, List, ℕ}
+use Rattle.std.specs.Prelude.{◌≡◌}
+use Rattle.octets.specs.Prelude.{List, ℕ}
 use Rattle.messages.specs.Settings.{Settings, settings_of}
 use Rattle.messages.specs.Requests.{Request, get_flags, set_flags, set_key, set_mapping, ack_payload, ack_stored, carried_by}
 

@@ -1,5 +1,6 @@
 -- Requests judged and carried out: the status, the settings left, and the ack.
-use Rattle.octets.specs.Prelude.{List, [], ◌∷◌, ◌++◌, Bool, true, false, cond, ◌&&◌, ℕ, zero, suc, ◌-◌, ◌/◌, ◌%◌, length, take}
+use Rattle.std.specs.Prelude.{◌∷◌, ◌++◌, ◌&&◌, ◌-◌, ◌/◌, ◌%◌}
+use Rattle.octets.specs.Prelude.{List, [], Bool, true, false, cond, ℕ, zero, suc, length, take}
 use Rattle.octets.specs.Prelude.{drop, replicate, eqb, leb, ltb}
 use Rattle.octets.specs.Numbers.{number_at, octets_of}
 use Rattle.toeplitz.specs.Hash.{key_length}

@@ -1,5 +1,6 @@
 -- The settings of an interface: what they are at setup, and what holds of them from then on.
-use Rattle.octets.specs.Prelude.{◌≡◌, List, [], ◌∷◌, ◌++◌, Bool, true, false, cond, ◌&&◌, ℕ, zero, suc, ◌-◌, ◌^◌, ◌≤◌, ◌<◌}
+use Rattle.std.specs.Prelude.{◌≡◌, ◌∷◌, ◌++◌, ◌&&◌, ◌-◌, ◌^◌, ◌≤◌, ◌<◌}
+use Rattle.octets.specs.Prelude.{List, [], Bool, true, false, cond, ℕ, zero, suc}
 use Rattle.octets.specs.Prelude.{length, get_or, take, replicate, eqb, leb}
 use Rattle.toeplitz.specs.Hash.{key_length}
 use Rattle.messages.specs.Wire.{all_flags}

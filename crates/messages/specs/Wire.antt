@@ -1,5 +1,6 @@
 -- Control messages as octets, as both ends write and read them.
-use Rattle.octets.specs.Prelude.{List, ◌++◌, ℕ, ◌+◌, length, drop}
+use Rattle.std.specs.Prelude.{◌++◌, ◌+◌}
+use Rattle.octets.specs.Prelude.{List, ℕ, length, drop}
 use Rattle.octets.specs.Numbers.{number_at, octets_of}
 
 -- the largest payload kept

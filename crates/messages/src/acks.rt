@@ -1,5 +1,5 @@
 // The two kinds of ack. Each number in one fits its lowest octet, so only that one is stored.
-ghost use Rattle.octets.specs.Prelude.{◌≡◌};
+ghost use Rattle.std.specs.Prelude.{◌≡◌};
 ghost use Rattle.messages.specs.Requests.{ack_stored, status_payload, flags_payload};
 
 use crate::{ACK_TYPE, Ack, FIELD, HEADER, MAX_ACK, SIZE_AT, SUCCESS};

@@ -1,5 +1,5 @@
 // Powers of two, which the numbers of entries of a mapping are.
-ghost use Rattle.octets.specs.Prelude.{◌≡◌};
+ghost use Rattle.std.specs.Prelude.{◌≡◌};
 ghost use Rattle.messages.specs.Settings.{is_power_of_two};
 
 // Whether n is 1, 2, 4, 8, ..

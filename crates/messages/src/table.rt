@@ -1,6 +1,7 @@
 // The mapping table of a set mapping request: every entry is judged first, and only then is the table built, as a new array. So a
 // late bad entry leaves no half table.
-ghost use Rattle.octets.specs.Prelude.{◌≡◌, ◌*◌, ◌≤◌, length};
+ghost use Rattle.std.specs.Prelude.{◌≡◌, ◌*◌, ◌≤◌};
+ghost use Rattle.octets.specs.Prelude.{length};
 ghost use Rattle.messages.specs.Wire.{field_size};
 ghost use Rattle.messages.specs.Settings.{max_entries, EachBelow, mapping_of};
 ghost use Rattle.messages.specs.Requests.{entries_in, all_below};

@@ -1,5 +1,6 @@
 -- Numbers in octets. Document 01: all numbers are unsigned and little-endian, so the lowest octet stands first.
-use Rattle.octets.specs.Prelude.{List, [], ◌∷◌, ℕ, zero, suc, ◌+◌, ◌*◌, ◌/◌, ◌%◌, ◌<◌, get_or}
+use Rattle.std.specs.Prelude.{◌∷◌, ◌+◌, ◌*◌, ◌/◌, ◌%◌, ◌<◌}
+use Rattle.octets.specs.Prelude.{List, [], ℕ, zero, suc, get_or}
 
 -- a list of octets: each number in it is below 256
 abbrev pub AreOctets : List ℕ → Type 0

@@ -1,7 +1,8 @@
 // Octets in slices: a copy, and little-endian numbers at a place. What more than one crate needs, and no more.
 #![tactic(auto)]
 
-ghost use Rattle.octets.specs.Prelude.{◌≡◌, ◌+◌, ◌*◌, ◌≤◌, ◌++◌, length, take, drop, sets};
+ghost use Rattle.std.specs.Prelude.{◌≡◌, ◌+◌, ◌*◌, ◌≤◌, ◌++◌};
+ghost use Rattle.octets.specs.Prelude.{length, take, drop, sets};
 ghost use Rattle.octets.specs.Numbers.{number_at, octets_of};
 
 // Octets of a word.

@@ -1,5 +1,6 @@
 -- The kind of a packet, and where its hash input stands.
-use Rattle.octets.specs.Prelude.{List, Bool, cond, not, ◌&&◌, ◌||◌, ℕ, zero, suc, ◌+◌, ◌*◌, ◌/◌, ◌%◌, ◌^◌, length, get_or, take, drop, eqb, leb}
+use Rattle.std.specs.Prelude.{◌&&◌, ◌||◌, ◌+◌, ◌*◌, ◌/◌, ◌%◌, ◌^◌}
+use Rattle.octets.specs.Prelude.{List, Bool, cond, not, ℕ, zero, suc, length, get_or, take, drop, eqb, leb}
 use Rattle.toeplitz.specs.TwoWay.{address_size, input_size}
 use Rattle.packet.specs.declared.Found.{Found}
 use Rattle.packet.specs.declared.Found.TheVariants.{NotIp, Ip}

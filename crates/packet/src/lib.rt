@@ -2,7 +2,8 @@
 // stranger's: only what its length covers is looked at.
 #![tactic(auto)]
 
-ghost use Rattle.octets.specs.Prelude.{◌≡◌, ◌+◌, ◌*◌, ◌≤◌, ◌<◌, length};
+ghost use Rattle.std.specs.Prelude.{◌≡◌, ◌+◌, ◌*◌, ◌≤◌, ◌<◌};
+ghost use Rattle.octets.specs.Prelude.{length};
 ghost use Rattle.packet.specs.Packets.{is_ipv4, is_ipv6, is_tcp, is_fragment, is_ipv4_tcp, kind_of, look_at, look_of};
 
 // The hash types by their numbers.

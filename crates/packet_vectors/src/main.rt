@@ -2,7 +2,8 @@
 // goes under the settings before it.
 #![tactic(auto)]
 
-ghost use Rattle.octets.specs.Prelude.{◌≤◌, length};
+ghost use Rattle.std.specs.Prelude.{◌≤◌};
+ghost use Rattle.octets.specs.Prelude.{length};
 
 use case_tools::{print_number, print_word};
 use packet::Found;

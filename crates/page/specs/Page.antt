@@ -1,5 +1,6 @@
 -- The shared page: its counts, and the octets of its areas by their counts.
-use Rattle.octets.specs.Prelude.{List, [], ◌∷◌, ℕ, zero, suc, ◌+◌, ◌-◌, ◌%◌, ◌^◌, get_or, set, sets}
+use Rattle.std.specs.Prelude.{◌∷◌, ◌+◌, ◌-◌, ◌%◌, ◌^◌}
+use Rattle.octets.specs.Prelude.{List, [], ℕ, zero, suc, get_or, set, sets}
 use Rattle.std.specs.Prelude.{map}
 use Rattle.octets.specs.Numbers.{number_at, octets_of}
 

@@ -1,6 +1,7 @@
 // The counts of a page. Each end keeps its own two and reads the other end's two from the page; all run over from
 // 4,294,967,295 to 0.
-ghost use Rattle.octets.specs.Prelude.{◌≡◌, ◌+◌, ◌≤◌, length};
+ghost use Rattle.std.specs.Prelude.{◌≡◌, ◌+◌, ◌≤◌};
+ghost use Rattle.octets.specs.Prelude.{length};
 ghost use Rattle.page.specs.Page.{count_in, less, with_count};
 
 // How many octets of an area are unread at this end: the writer's count, which stands at `at`, less the own one.

@@ -1,6 +1,7 @@
 -- How a call tells what the call behind it answers: a number as its result, and values in places. A place that nothing is put
 -- into, as where a call is refused, is as it was before.
-use Rattle.octets.specs.Prelude.{◌≡◌, ℕ}
+use Rattle.std.specs.Prelude.{◌≡◌}
+use Rattle.octets.specs.Prelude.{ℕ}
 use Rattle.toeplitz.specs.TwoWay.{Verdict, agree, differ_at}
 use Rattle.steering.specs.Steering.{Choice, unhashed, hashed, queue_in}
 

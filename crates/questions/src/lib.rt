@@ -2,7 +2,7 @@
 // to places that are lent for them, which a refusal leaves as they were.
 #![tactic(auto)]
 
-ghost use Rattle.octets.specs.Prelude.{◌≡◌};
+ghost use Rattle.std.specs.Prelude.{◌≡◌};
 ghost use Rattle.octets.specs.Outcome.{number_of, placed, itself};
 ghost use Rattle.toeplitz.specs.Hash.{hash_outcome};
 ghost use Rattle.toeplitz.specs.TwoWay.{two_way_outcome};

@@ -1,5 +1,6 @@
 -- What is counted of the records of a capture, under the settings of an interface.
-use Rattle.octets.specs.Prelude.{List, [], ◌∷◌, Bool, true, false, cond, ℕ, zero, suc, ◌+◌, length, eqb}
+use Rattle.std.specs.Prelude.{◌∷◌, ◌+◌}
+use Rattle.octets.specs.Prelude.{List, [], Bool, true, false, cond, ℕ, zero, suc, length, eqb}
 use Rattle.messages.specs.Settings.{Settings}
 use Rattle.steering.specs.Steering.{Choice, unhashed, hashed, queue_in}
 use Rattle.interface.specs.States.{steered_by}

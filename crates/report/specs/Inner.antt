@@ -1,5 +1,6 @@
 -- What the inner functions promise: no part of the public promise.
-use Rattle.octets.specs.Prelude.{◌≡◌, List, cond, ℕ, ◌+◌, ◌^◌, ◌<◌, get_or, set}
+use Rattle.std.specs.Prelude.{◌≡◌, ◌+◌, ◌^◌, ◌<◌}
+use Rattle.octets.specs.Prelude.{List, cond, ℕ, get_or, set}
 use Rattle.messages.specs.Settings.{max_queues}
 use Rattle.steering.specs.Steering.{Choice, queue_in}
 use Rattle.report.specs.Counting.{is_unhashed}

@@ -1,5 +1,6 @@
 -- The report on a settings file and a capture.
-use Rattle.octets.specs.Prelude.{List, cond, ◌&&◌, ℕ, length, get_or, leb}
+use Rattle.std.specs.Prelude.{◌&&◌}
+use Rattle.octets.specs.Prelude.{List, cond, ℕ, length, get_or, leb}
 use Rattle.octets.specs.Outcome.{Outcome, value, refused, and_then}
 use Rattle.messages.specs.Settings.{Settings}
 use Rattle.capture.specs.Header.{header_outcome}

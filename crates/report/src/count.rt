@@ -1,5 +1,6 @@
 // The records of a capture, counted one after the other.
-ghost use Rattle.octets.specs.Prelude.{◌≡◌, true, cond, ◌+◌, ◌≤◌, ◌<◌, ◌^◌, length, get_or, take};
+ghost use Rattle.std.specs.Prelude.{◌≡◌, ◌+◌, ◌≤◌, ◌<◌, ◌^◌};
+ghost use Rattle.octets.specs.Prelude.{true, cond, length, get_or, take};
 ghost use Rattle.octets.specs.Outcome.{refused as refusal};
 ghost use Rattle.messages.specs.Settings.{max_queues, is_listed, Good};
 ghost use Rattle.steering.specs.Steering.{choice_of, queue_in, steered};

@@ -1,7 +1,8 @@
 // How the packets of a capture spread over the queues of an interface with the settings of a file.
 #![tactic(auto)]
 
-ghost use Rattle.octets.specs.Prelude.{◌≡◌, ◌≤◌, length};
+ghost use Rattle.std.specs.Prelude.{◌≡◌, ◌≤◌};
+ghost use Rattle.octets.specs.Prelude.{length};
 ghost use Rattle.messages.specs.Settings.{max_queues, Good};
 ghost use Rattle.settings_file.specs.Loading.{settings_held};
 ghost use Rattle.report.specs.Reports.{max_file, report_under, report_on, report_of};

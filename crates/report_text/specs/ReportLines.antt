@@ -1,5 +1,6 @@
 -- The lines of a report.
-use Rattle.octets.specs.Prelude.{List, [], ◌∷◌, ◌++◌, ℕ, suc}
+use Rattle.std.specs.Prelude.{◌∷◌, ◌++◌}
+use Rattle.octets.specs.Prelude.{List, [], ℕ, suc}
 use Rattle.octets.specs.Outcome.{Outcome, value, refused}
 use Rattle.text.specs.Ascii.{ascii, decimal}
 use Rattle.text.specs.Lines.{number_line, refusal_line}

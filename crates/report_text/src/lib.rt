@@ -1,7 +1,7 @@
 // The report as the lines that the program prints.
 #![tactic(auto)]
 
-ghost use Rattle.octets.specs.Prelude.{◌+◌, ◌*◌, ◌≤◌};
+ghost use Rattle.std.specs.Prelude.{◌+◌, ◌*◌, ◌≤◌};
 ghost use Rattle.text.specs.Text.{capacity, Adds, Prints};
 ghost use Rattle.messages.specs.Settings.{max_queues};
 ghost use Rattle.report.specs.Reports.{counted_of, report_of};

@@ -1,5 +1,6 @@
 -- The files that are kept.
-use Rattle.octets.specs.Prelude.{ℕ, ◌≤◌}
+use Rattle.std.specs.Prelude.{◌≤◌}
+use Rattle.octets.specs.Prelude.{ℕ}
 use Rattle.report_vectors.specs.declared.Kept.{Kept}
 
 -- they fit buffers of n and of m octets

@@ -1,7 +1,7 @@
 // Requests carried out in place, on the settings as they are lent, and acked.
 #![tactic(auto)]
 
-ghost use Rattle.octets.specs.Prelude.{◌≡◌};
+ghost use Rattle.std.specs.Prelude.{◌≡◌};
 ghost use Rattle.messages.specs.Settings.{settings_of};
 ghost use Rattle.messages.specs.Requests.{request_of, ack_payload, ack_stored, carried_as, carried_out};
 ghost use Rattle.messages.specs.Inner.{Leaves};

@@ -1,5 +1,6 @@
 -- What the inner functions promise: no part of the public promise.
-use Rattle.octets.specs.Prelude.{List, cond, ℕ, ◌-◌, min, ltb}
+use Rattle.std.specs.Prelude.{◌-◌}
+use Rattle.octets.specs.Prelude.{List, cond, ℕ, min, ltb}
 use Rattle.messages.specs.Wire.{header_size}
 use Rattle.ring.specs.Reading.{message_length}
 

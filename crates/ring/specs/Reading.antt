@@ -1,5 +1,6 @@
 -- The present message, and octets of an area read into it. A reading side is that of either end.
-use Rattle.octets.specs.Prelude.{◌≡◌, List, [], ◌∷◌, Bool, false, cond, ℕ, ◌+◌, ◌-◌, ◌^◌, ◌<◌, length, set, replicate, leb, ltb}
+use Rattle.std.specs.Prelude.{◌≡◌, ◌∷◌, ◌+◌, ◌-◌, ◌^◌, ◌<◌}
+use Rattle.octets.specs.Prelude.{List, [], Bool, false, cond, ℕ, length, set, replicate, leb, ltb}
 use Rattle.messages.specs.Wire.{header_size, max_payload, size_in}
 use Rattle.page.specs.Page.{advanced, octets_in}
 

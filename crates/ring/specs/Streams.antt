@@ -1,5 +1,6 @@
 -- A stream of octets: the message that it begins with, and a message read so far as the octets that were read.
-use Rattle.octets.specs.Prelude.{◌≡◌, List, Bool, cond, ℕ, ◌-◌, length, take, drop}
+use Rattle.std.specs.Prelude.{◌≡◌, ◌-◌}
+use Rattle.octets.specs.Prelude.{List, Bool, cond, ℕ, length, take, drop}
 use Rattle.messages.specs.Wire.{header_size, max_payload}
 use Rattle.ring.specs.Reading.{message_length, is_whole, Message}
 

@@ -1,5 +1,6 @@
 -- A message, and octets of it put into an area. A writing side is that of either end.
-use Rattle.octets.specs.Prelude.{◌≡◌, List, ℕ, ◌+◌, ◌-◌, ◌^◌, ◌≤◌, ◌<◌, min, length, take, drop, replicate}
+use Rattle.std.specs.Prelude.{◌≡◌, ◌+◌, ◌-◌, ◌^◌, ◌≤◌, ◌<◌}
+use Rattle.octets.specs.Prelude.{List, ℕ, min, length, take, drop, replicate}
 use Rattle.messages.specs.Requests.{max_ack}
 use Rattle.page.specs.Page.{advanced}
 

@@ -1,6 +1,7 @@
 // The present message read from an area: first what is missing of its header, then of its payload, until
 // it is whole or no octet is left. Octets of a following message stay.
-ghost use Rattle.octets.specs.Prelude.{◌≡◌, false, ◌+◌, ◌-◌, ◌^◌, ◌≤◌, ◌<◌, length, sets};
+ghost use Rattle.std.specs.Prelude.{◌≡◌, ◌+◌, ◌-◌, ◌^◌, ◌≤◌, ◌<◌};
+ghost use Rattle.octets.specs.Prelude.{false, length, sets};
 ghost use Rattle.messages.specs.Wire.{header_size};
 ghost use Rattle.page.specs.Page.{area_size, advanced, octets_in};
 ghost use Rattle.ring.specs.Reading.{message_length, is_whole, incoming_of, received_from};

@@ -1,5 +1,6 @@
 // A message written into an area, as far as it fits.
-ghost use Rattle.octets.specs.Prelude.{◌≡◌, ◌+◌, ◌≤◌, length};
+ghost use Rattle.std.specs.Prelude.{◌≡◌, ◌+◌, ◌≤◌};
+ghost use Rattle.octets.specs.Prelude.{length};
 ghost use Rattle.page.specs.Page.{area_size, put};
 ghost use Rattle.ring.specs.Writing.{outgoing_of, fitting, sent_octets};
 

@@ -1,5 +1,6 @@
 -- What the inner functions promise: no part of the public promise.
-use Rattle.octets.specs.Prelude.{◌≡◌, List, ℕ, ◌≤◌, ◌<◌, length, take, drop}
+use Rattle.std.specs.Prelude.{◌≡◌, ◌≤◌, ◌<◌}
+use Rattle.octets.specs.Prelude.{List, ℕ, length, take, drop}
 use Rattle.octets.specs.Outcome.{refused, placed, itself}
 use Rattle.messages.specs.Wire.{max_payload}
 use Rattle.messages.specs.Settings.{Settings, Good}

@@ -1,5 +1,6 @@
 -- The settings file: one octet for the queue count, then request messages, each carried out as the host does.
-use Rattle.octets.specs.Prelude.{List, [], ◌∷◌, Bool, true, cond, ◌&&◌, ℕ, length, eqb}
+use Rattle.std.specs.Prelude.{◌∷◌, ◌&&◌}
+use Rattle.octets.specs.Prelude.{List, [], Bool, true, cond, ℕ, length, eqb}
 use Rattle.octets.specs.Outcome.{Outcome, value, refused, and_then}
 use Rattle.messages.specs.Wire.{success}
 use Rattle.messages.specs.Requests.{ack_status, carried_message}

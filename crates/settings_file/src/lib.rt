@@ -1,7 +1,8 @@
 // The settings of a file: a queue count, then messages carried out one after the other.
 #![tactic(auto)]
 
-ghost use Rattle.octets.specs.Prelude.{◌≡◌, ◌≤◌, ◌<◌, length, get_or};
+ghost use Rattle.std.specs.Prelude.{◌≡◌, ◌≤◌, ◌<◌};
+ghost use Rattle.octets.specs.Prelude.{length, get_or};
 ghost use Rattle.octets.specs.Outcome.{number_of};
 ghost use Rattle.messages.specs.Wire.{max_payload};
 ghost use Rattle.messages.specs.Settings.{Good};

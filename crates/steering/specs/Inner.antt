@@ -1,5 +1,6 @@
 -- What the inner functions promise: no part of the public promise.
-use Rattle.octets.specs.Prelude.{◌≡◌, List, cond, ℕ, ◌+◌, ◌≤◌, length, take}
+use Rattle.std.specs.Prelude.{◌≡◌, ◌+◌, ◌≤◌}
+use Rattle.octets.specs.Prelude.{List, cond, ℕ, length, take}
 use Rattle.toeplitz.specs.Hash.{published_hash}
 use Rattle.toeplitz.specs.TwoWay.{last_type, address_size, input_size}
 use Rattle.steering.specs.Steering.{is_set, plain_type, Choice, unhashed, hashed_to}

@@ -1,5 +1,6 @@
 -- The type, hash and queue of a packet under the flags, key and mapping table of an interface.
-use Rattle.octets.specs.Prelude.{◌≡◌, List, Bool, cond, ℕ, ◌-◌, ◌/◌, ◌%◌, ◌^◌, ◌≤◌, length, get_or, eqb}
+use Rattle.std.specs.Prelude.{◌≡◌, ◌-◌, ◌/◌, ◌%◌, ◌^◌, ◌≤◌}
+use Rattle.octets.specs.Prelude.{List, Bool, cond, ℕ, length, get_or, eqb}
 use Rattle.toeplitz.specs.Hash.{key_length, published_hash}
 use Rattle.packet.specs.Packets.{PacketType, no_type, hash_type, kind_of, input_of}
 use Rattle.steering.specs.declared.Steered.{Steered}

@@ -3,7 +3,8 @@
 // packet.
 #![tactic(auto)]
 
-ghost use Rattle.octets.specs.Prelude.{◌≡◌, ◌≤◌, length};
+ghost use Rattle.std.specs.Prelude.{◌≡◌, ◌≤◌};
+ghost use Rattle.octets.specs.Prelude.{length};
 ghost use Rattle.toeplitz.specs.Hash.{max_input, published_hash};
 ghost use Rattle.toeplitz.specs.TwoWay.{last_type};
 ghost use Rattle.steering.specs.Steering.{Usable, is_set, hashed_to, steered, choice_of};

@@ -1,5 +1,6 @@
 -- Words and numbers as the octets that a program prints.
-use Rattle.octets.specs.Prelude.{List, [], ◌∷◌, cond, ℕ, zero, suc, ◌/◌, ltb}
+use Rattle.std.specs.Prelude.{◌∷◌, ◌/◌}
+use Rattle.octets.specs.Prelude.{List, [], cond, ℕ, zero, suc, ltb}
 use Prim.Native.Char.{code}
 use Prim.Native.String.{String, [] as no_text, ◌∷◌ as ◌and_text◌}
 use Rattle.io.specs.Digits.{last_digits}

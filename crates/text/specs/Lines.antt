@@ -1,5 +1,6 @@
 -- The lines that the programs print.
-use Rattle.octets.specs.Prelude.{List, ◌++◌, cond, ℕ, length, take, drop, eqb}
+use Rattle.std.specs.Prelude.{◌++◌}
+use Rattle.octets.specs.Prelude.{List, cond, ℕ, length, take, drop, eqb}
 use Rattle.octets.specs.Outcome.{Outcome, value, refused}
 use Rattle.toeplitz.specs.Refusals.{key_length_wrong}
 use Rattle.toeplitz.specs.Hash.{key_length, hash_outcome}

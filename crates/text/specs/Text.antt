@@ -1,5 +1,6 @@
 -- A text that grows: what it holds, and what it is to add to it.
-use Rattle.octets.specs.Prelude.{◌≡◌, List, ◌++◌, ℕ, ◌+◌, ◌≤◌, length, take}
+use Rattle.std.specs.Prelude.{◌≡◌, ◌++◌, ◌+◌, ◌≤◌}
+use Rattle.octets.specs.Prelude.{List, ℕ, length, take}
 use Rattle.text.specs.declared.Text.{Text}
 
 -- the most octets that a text holds: 64 lines of a report's queues, at most 69 each, and two lines more

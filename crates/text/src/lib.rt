@@ -2,7 +2,8 @@
 // returns is the one that it took with certain octets behind it.
 #![tactic(auto)]
 
-ghost use Rattle.octets.specs.Prelude.{◌≡◌, ◌≤◌, length};
+ghost use Rattle.std.specs.Prelude.{◌≡◌, ◌≤◌};
+ghost use Rattle.octets.specs.Prelude.{length};
 
 mod line;
 mod piece;

@@ -1,5 +1,6 @@
 // One line behind a text.
-ghost use Rattle.octets.specs.Prelude.{◌+◌, ◌≤◌, length};
+ghost use Rattle.std.specs.Prelude.{◌+◌, ◌≤◌};
+ghost use Rattle.octets.specs.Prelude.{length};
 ghost use Rattle.text.specs.Text.{capacity, longest_line, Adds};
 ghost use Rattle.text.specs.Lines.{number_line, refusal_line};
 

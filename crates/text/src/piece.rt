@@ -1,5 +1,6 @@
 // The pieces of a line: octets and numbers put behind a text.
-ghost use Rattle.octets.specs.Prelude.{[], ◌∷◌, ◌+◌, ◌≤◌, ◌<◌, length};
+ghost use Rattle.std.specs.Prelude.{◌∷◌, ◌+◌, ◌≤◌, ◌<◌};
+ghost use Rattle.octets.specs.Prelude.{[], length};
 ghost use Rattle.text.specs.Ascii.{decimal, hex8};
 ghost use Rattle.text.specs.Text.{capacity, Adds};
 

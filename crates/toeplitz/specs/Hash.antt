@@ -1,5 +1,6 @@
 -- The published hash of a key and an input, and what a hash call answers.
-use Rattle.octets.specs.Prelude.{List, cond, ℕ, zero, suc, ◌+◌, ◌-◌, ◌*◌, ◌/◌, ◌%◌, ◌^◌, length, get_or, eqb, leb, bit_xor}
+use Rattle.std.specs.Prelude.{◌+◌, ◌-◌, ◌*◌, ◌/◌, ◌%◌, ◌^◌}
+use Rattle.octets.specs.Prelude.{List, cond, ℕ, zero, suc, length, get_or, eqb, leb, bit_xor}
 use Rattle.octets.specs.Outcome.{Outcome, value, refused}
 use Rattle.toeplitz.specs.Refusals.{input_too_long, key_length_wrong}
 use Rattle.toeplitz.specs.declared.HashAnswer.{HashAnswer}

@@ -1,5 +1,6 @@
 -- The step of the window: how one window is made of the one before it and the next key bit.
-use Rattle.octets.specs.Prelude.{List, ℕ, zero, suc, ◌+◌, ◌*◌, ◌%◌, get_or}
+use Rattle.std.specs.Prelude.{◌+◌, ◌*◌, ◌%◌}
+use Rattle.octets.specs.Prelude.{List, ℕ, zero, suc, get_or}
 use Rattle.toeplitz.specs.Hash.{bit_at}
 
 -- the step: the top bit of the window gone, and the next key bit drawn in below the others

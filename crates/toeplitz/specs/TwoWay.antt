@@ -1,5 +1,6 @@
 -- The inputs of each hash type, the reverse of an input, and what the two-way question answers.
-use Rattle.octets.specs.Prelude.{◌≡◌, List, ◌++◌, Bool, true, false, not, cond, ℕ, zero, suc, ◌+◌, ◌-◌, ◌*◌, ◌/◌, ◌%◌, ◌^◌, ◌<◌}
+use Rattle.std.specs.Prelude.{◌≡◌, ◌++◌, ◌+◌, ◌-◌, ◌*◌, ◌/◌, ◌%◌, ◌^◌, ◌<◌}
+use Rattle.octets.specs.Prelude.{List, Bool, true, false, not, cond, ℕ, zero, suc}
 use Rattle.octets.specs.Prelude.{length, get_or, take, drop, set, replicate, eqb, leb}
 use Rattle.octets.specs.Numbers.{AreOctets}
 use Rattle.octets.specs.Outcome.{Outcome, value, refused}

@@ -1,5 +1,6 @@
 -- The XOR of two keys, or of two inputs of one length: octet by octet.
-use Rattle.octets.specs.Prelude.{List, [], ◌∷◌, ℕ, bit_xor}
+use Rattle.std.specs.Prelude.{◌∷◌}
+use Rattle.octets.specs.Prelude.{List, [], ℕ, bit_xor}
 
 -- (of two lists of unequal length, the longer one's other octets stay)
 unfoldable pub xor_octets : List ℕ → List ℕ → List ℕ

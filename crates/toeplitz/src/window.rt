@@ -1,5 +1,6 @@
 // The windows of a key: 32 bits each, read in place from the lent octets.
-ghost use Rattle.octets.specs.Prelude.{◌≡◌, ◌+◌, ◌*◌, ◌<◌, ◌≤◌, length, eqb};
+ghost use Rattle.std.specs.Prelude.{◌≡◌, ◌+◌, ◌*◌, ◌<◌, ◌≤◌};
+ghost use Rattle.octets.specs.Prelude.{length, eqb};
 ghost use Rattle.toeplitz.specs.Hash.{key_length, bit_at, window_at};
 ghost use Rattle.toeplitz.specs.Step.{four_octets};
 

@@ -1,5 +1,6 @@
 -- The worked lines as rows: each kind of line has a constructor, and `Holds` says what it claims of the definitions.
-use Rattle.octets.specs.Prelude.{◌≡◌, List, [], ◌∷◌, ◌++◌, ℕ, zero, suc, replicate, set}
+use Rattle.std.specs.Prelude.{◌≡◌, ◌∷◌, ◌++◌}
+use Rattle.octets.specs.Prelude.{List, [], ℕ, zero, suc, replicate, set}
 use Rattle.octets.specs.Outcome.{value}
 use Rattle.toeplitz.specs.Hash.{hash_outcome}
 use Rattle.toeplitz.specs.TwoWay.{Verdict, agree, differ_at, two_way_outcome}

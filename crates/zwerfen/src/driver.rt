@@ -1,5 +1,5 @@
 // The guest's end of the ring, for a driver: the guest is in the driver's memory.
-ghost use Rattle.octets.specs.Prelude.{◌≡◌};
+ghost use Rattle.std.specs.Prelude.{◌≡◌};
 ghost use Rattle.guest_messages.specs.Writer.{get_flags_message, set_flags_message, set_key_message, set_mapping_message};
 ghost use Rattle.guest_steps.specs.Guest.{Good, state_of, guest_at_setup};
 ghost use Rattle.guest_steps.specs.Calls.{start_of, event_of};

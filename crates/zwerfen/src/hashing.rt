@@ -1,5 +1,5 @@
 // The hash and the two-way question.
-ghost use Rattle.octets.specs.Prelude.{◌≡◌};
+ghost use Rattle.std.specs.Prelude.{◌≡◌};
 ghost use Rattle.octets.specs.Outcome.{number_of, placed, itself};
 ghost use Rattle.toeplitz.specs.Hash.{hash_outcome};
 ghost use Rattle.toeplitz.specs.TwoWay.{two_way_outcome};

@@ -1,5 +1,5 @@
 // One interface of the host, in the host's memory.
-ghost use Rattle.octets.specs.Prelude.{◌≡◌};
+ghost use Rattle.std.specs.Prelude.{◌≡◌};
 ghost use Rattle.octets.specs.Outcome.{number_of, placed, itself};
 ghost use Rattle.interface.specs.States.{Good, state_of, set_up_outcome, steered_by};
 ghost use Rattle.interface.specs.Events.{left, event_of};

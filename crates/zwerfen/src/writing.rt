@@ -1,5 +1,5 @@
 // The guest's writer of requests and reader of acks.
-ghost use Rattle.octets.specs.Prelude.{◌≡◌};
+ghost use Rattle.std.specs.Prelude.{◌≡◌};
 ghost use Rattle.octets.specs.Outcome.{number_of, placed};
 ghost use Rattle.guest_messages.specs.Writer.{get_flags_message, set_flags_message, set_key_message, set_mapping_message};
 ghost use Rattle.guest_messages.specs.Reader.{read_ack};
