@@ -1,9 +1,8 @@
 -- `answer_lines::hash_text` meets its contract: where fewer than 40 octets were read, all are the key and none the input.
-use Rattle.octets.specs.Prelude.{◌≡◌, sym, ap, ap₂, ◌∙◌, List, ℕ, ◌-◌, min, dec_lt, arith, needs, length, take, drop, length-drop}
-use Rattle.octets.specs.Prelude.{drop_of_length-le, length-take-le, take_all}
+use Rattle.octets.specs.Prelude.{◌≡◌, sym, ap, ap₂, ◌∙◌, List, ℕ, ◌-◌, min, dec_lt, arith, length, take, drop, length-drop}
+use Rattle.octets.specs.Prelude.{drop_of_length-le, take_all}
 use Rattle.toeplitz.specs.Hash.{key_length, hash_outcome}
-use Rattle.answer_lines.proofs.hash_text.Statement.{statement}
-use Rattle.answer_lines.proofs.hash_text.Tie as tie
+use Rattle.answer_lines.proofs.hash_text.Goals as goal
 
 module _ (octets : List ℕ) (split : ℕ) (e : split ≡ min key_length (length octets)) where
   key-part : take split octets ≡ take key_length octets
@@ -21,15 +20,9 @@ module _ (octets : List ℕ) (split : ℕ) (e : split ≡ min key_length (length
         | no n ↦ let whole : split ≡ key_length = omega arith in ap (λ (k : ℕ). drop k octets) whole
       ]
 
-returns : tie.Need-returns
+pub returns : goal.returns
 returns c =
-    let d = c.before.before.before.before in
-    let octets = d.before.before.args.octets.now in
-    let split = d.key-end.result in
-    let parts = ap₂ hash_outcome (key-part octets split d.key-end.ensures.0) (input-part octets split d.key-end.ensures.0) in
-    rw (c.before.hash.ensures ∙ parts) at c.hash-line.ensures
-
-pub hash-text-spec : {M : Type 1} → statement M
-hash-text-spec =
-    tie.close (tie.spec (λ c κs. search needs) (λ c. sym (length-take-le _ _ (search needs))) (λ c. search needs) (λ c. search needs)
-    (λ c. search needs) (λ c κs. search needs) (λ c κs. search needs) returns)
+    let octets = c.args.octets.now in
+    let split = c.key_end-split.result in
+    let parts = ap₂ hash_outcome (key-part octets split c.key_end-split.ensures.0) (input-part octets split c.key_end-split.ensures.0) in
+    rw (c.hash.ensures ∙ parts) at c.hash_line.ensures
