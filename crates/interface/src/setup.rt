@@ -9,6 +9,7 @@ use toeplitz::KEY_LENGTH;
 
 // Sets up the interface whose parts are lent with this many queues in operation, 1 to 64. Every octet of it is written; where
 // the number is refused, none is.
+#[tactic(auto, unfolding(crate::specs::States::set_up_outcome))]
 pub fn set_up<'a>(
     numbers: &'a mut [u64; NUMBERS],
     header: &'a mut [u8; HEADER],
