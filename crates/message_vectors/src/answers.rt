@@ -7,7 +7,7 @@ use guest_messages::{AckAnswer, Written};
 const STDOUT: i32 = 1;
 
 // The octets of the ack, and the settings left.
-pub(crate) fn print_carried(left: Settings, ack_length: u64, ack: &[u8; messages::MAX_ACK]) {
+pub(crate) fn print_carried(left: &Settings, ack_length: u64, ack: &[u8; messages::MAX_ACK]) {
     print_form(b"ack # ", &[ack_length]);
     print_octets(ack);
     print_form(

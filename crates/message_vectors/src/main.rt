@@ -122,7 +122,7 @@ fn carry_out(settings: Settings, kind: u32, size: u32, payload: &[u8; MAX_PAYLOA
         key,
         entries,
     };
-    answers::print_carried(left, carried.ack_length as u64, &ack);
+    answers::print_carried(&left, carried.ack_length as u64, &ack);
     left
 }
 
