@@ -1,7 +1,7 @@
 -- What a call finds on the page, by its tests, and what a start finds; and octets of the request written on.
 use Rattle.octets.specs.Prelude.{◌≡◌, refl, ap, ◌∙◌, List, Bool, true, false, cond, ℕ, ◌+◌, ◌-◌, ◌≤◌, ◌<◌, length, get_or, set, ltb}
 use Rattle.octets.specs.Prelude.{eq-eqb, ne_eqb, le-leb, lt-leb}
-use Rattle.octets.specs.Outcome.{Outcome, value, refused}
+use Rattle.octets.specs.Outcome.{value, refused}
 use Rattle.page.specs.Refusals.{page_wrong, requests_wrong, responses_wrong}
 use Rattle.page.specs.Page.{page_size, area_size, requests_at, advanced, counted_by_guest, put}
 use Rattle.ring.specs.Writing.{fitting, sent_octets, sent}
