@@ -1,5 +1,5 @@
 -- What is seen of an ack, as the definitions say it.
-use Rattle.octets.specs.Prelude.{◌≡◌, refl, ap, List, [], ◌++◌, append-nil, true, false, ℕ, ◌+◌, ◌≤◌, ◌<◌, arith, length, take}
+use Rattle.octets.specs.Prelude.{◌≡◌, refl, List, [], ◌++◌, append-nil, true, false, ℕ, ◌+◌, ◌≤◌, ◌<◌, arith, length, take}
 use Rattle.octets.specs.Prelude.{drop, drop_of_length-le, take_at, drop_at, take-append-add, eq-eqb, ne_eqb, le-leb, lt-leb}
 use borrow.Rule.Slice.PartMut.{put_mid}
 use Rattle.octets.specs.Outcome.{refused}

@@ -21,7 +21,7 @@ const WITH_FLAGS: u32 = STATUS_ALONE + STATUS_ALONE;
 
 // Looks at the ack read so far: a size that no ack has is refused at the header, and the reader judges the rest.
 pub fn look(kind: u32, header: &[u8; HEADER], payload: &[u8; MAX_ACK_PAYLOAD], taken: u64) -> Sight
-    ensures { sight_of result ≡ seen kind (record { header = header.entry.now; payload = payload.now; taken = taken }) }
+    ensures { sight_of result ≡ seen kind (record { header = header.now; payload = payload.now; taken = taken }) }
 {
     if taken < HEADER_OCTETS {
         return Sight::Partly;
