@@ -1,6 +1,6 @@
 -- The answers of setup and of an event: each refusal exactly where its condition is the first that holds.
-use Rattle.octets.specs.Prelude.{◌≡◌, refl, sym, ap, ◌∙◌, List, ◌↔◌, Bool, true, false, cond, ◌&&◌, false≢true, ℕ, ◌≤◌, ◌<◌, arith, length}
-use Rattle.octets.specs.Prelude.{eqb, leb, le-leb, leb-true}
+use Rattle.octets.specs.Prelude.{◌≡◌, refl, sym, ◌∙◌, List, ◌↔◌, Bool, true, false, cond, ◌&&◌, false≢true, ℕ, ◌≤◌, ◌<◌, arith, length}
+use Rattle.octets.specs.Prelude.{leb, le-leb, leb-true}
 use Rattle.octets.specs.Outcome.{Outcome, value, refused}
 use Rattle.octets.proofs.Truth.{both_true, by-test, neither, beside}
 use Rattle.octets.proofs.Outcomes.{value-not-refused, test-value}

@@ -1,5 +1,5 @@
 -- Setup gives a good state, and so does every event on a good state.
-use Rattle.octets.specs.Prelude.{◌≡◌, refl, ◌∙◌, List, false, ℕ, ◌-◌, ◌^◌, ◌≤◌, ◌<◌, arith, length, ltb-false}
+use Rattle.octets.specs.Prelude.{◌≡◌, refl, ◌∙◌, List, false, ℕ, ◌^◌, ◌≤◌, ◌<◌, arith, length, ltb-false}
 use Rattle.messages.specs.Wire.{header_size, max_payload, type_in, size_in}
 use Rattle.messages.specs.Requests.{max_ack}
 use Rattle.messages.specs.Settings.{max_queues, Good as GoodSettings}

@@ -11,7 +11,7 @@ use Rattle.page.proofs.Places.{octets-length}
 use Rattle.ring.proofs.Holdings.{holding-whole, holding-received, present-whole}
 use Rattle.steering.specs.Steering.{queue_in}
 use Rattle.interface.specs.States.{Good, steered_by, HostState}
-use Rattle.interface.specs.Events.{After, waiting, unread, owes, responded, read_in, carried_in, carried_over, event_of}
+use Rattle.interface.specs.Events.{After, unread, owes, responded, read_in, carried_in, carried_over, event_of}
 use Rattle.backend.specs.Streams.{read_by, written_by, Reached, from_set_up, from_event}
 use Rattle.backend.specs.Rules.{Accepted, room, after_reading, BecomesWhole}
 use Rattle.backend.proofs.Branches.{event-cases}

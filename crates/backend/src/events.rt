@@ -14,6 +14,7 @@ use toeplitz::KEY_LENGTH;
 
 // One event of the interface whose parts are lent, on its page, answered by document 01's number. The own counts are those in
 // the numbers, whatever the page says of them.
+#[tactic(auto, unfolding(interface::specs::Events::event_of))]
 pub fn event<'a>(
     numbers: &'a mut [u64; NUMBERS],
     header: &'a mut [u8; HEADER],
