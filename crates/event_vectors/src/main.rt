@@ -56,7 +56,7 @@ fn answer(i: Interface, page: &mut [u8], kind: u8, body: &[u8]) -> Interface
         SET_UP => host_cases::set_up(i, body),
         EVENT => host_cases::event(i, page, body),
         PACKET => {
-            packet(i, body);
+            packet(&i, body);
             i
         }
         COUNTS => {
@@ -71,12 +71,10 @@ fn answer(i: Interface, page: &mut [u8], kind: u8, body: &[u8]) -> Interface
 }
 
 // Where a packet goes.
-fn packet(i: Interface, body: &[u8])
-    requires { Good (state_of i) }
+fn packet(i: &Interface, body: &[u8])
+    requires { Good (state_of i.now) }
 {
     let flags = i.numbers[interface::FLAGS] as u8;
     let count = i.numbers[interface::ENTRY_COUNT] as u8;
-    let key = i.key;
-    let entries = i.entries;
-    answer_text::print_steered(interface::steer(flags, &key, &entries, count, body));
+    answer_text::print_steered(interface::steer(flags, &i.key, &i.entries, count, body));
 }

@@ -79,7 +79,7 @@ pub fn event(i: Interface, page: &mut [u8], body: &[u8]) -> Interface
 {
     let n = cases::number_up_to(page.len(), body);
     let left = event_on(i, &mut page[0..n]);
-    print_left(left, &page[..]);
+    print_left(&left, &page[..]);
     left
 }
 
@@ -115,7 +115,7 @@ fn event_on(i: Interface, page: &mut [u8]) -> Interface
 }
 
 // The rest of the line: the interface's own counts, all octets of the buffer, and the settings but for the queue count.
-fn print_left(i: Interface, page: &[u8]) {
+fn print_left(i: &Interface, page: &[u8]) {
     print_form(
         b" req_cons # rsp_prod # page $ flags # entries # key $ table $\n",
         &[
