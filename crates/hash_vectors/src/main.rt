@@ -12,11 +12,11 @@ const TWO_WAY: u8 = 1;
 
 const HASH_PROGRAM: u8 = 2;
 
-fn main() {
+fn main(rt: HostRuntime) {
     let mut buffer = io::large_buffer();
     for part in 0..cases::PARTS {
         // A file that is not there has no case.
-        let n = cases::load_part(part, &mut buffer);
+        let n = cases::load_part(&rt, part, &mut buffer);
         run(&buffer[..n]);
     }
 }

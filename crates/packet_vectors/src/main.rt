@@ -21,13 +21,13 @@ const TABLE_AT: usize = 41;
 // Octets of the longest settings, with a table of 128 entries.
 const MOST: usize = 169;
 
-fn main() {
+fn main(rt: HostRuntime) {
     let mut buffer = io::large_buffer();
     let mut settings = [0u8; MOST];
     let mut kept: usize = 0;
     for part in 0..cases::PARTS {
         // A file that is not there has no case.
-        let n = cases::load_part(part, &mut buffer);
+        let n = cases::load_part(&rt, part, &mut buffer);
         kept = run(&buffer[..n], &mut settings, kept);
     }
 }
