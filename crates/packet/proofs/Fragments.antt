@@ -5,8 +5,8 @@ use Rattle.octets.specs.Prelude.{get_or-set_other, eqb, leb, eqb-true, eqb-false
 use mathlib.Core.Bool.{and-false}
 use lib.Bits.{and_mask}
 use Rattle.octets.proofs.Truth.{both_true}
-use Rattle.packet.specs.Packets.{hash_type, is_ipv4, is_tcp, fragment_field, more_fragments, fragment_offset, is_fragment, is_ipv4_tcp, kind_of, input_of}
-use Rattle.packet.specs.Packets.{ipv4_source, ipv4_destination}
+use Rattle.packet.specs.Packets.{hash_type, is_ipv4, is_tcp, fragment_field, more_fragments, fragment_offset, is_fragment, is_ipv4_tcp, kind_of}
+use Rattle.packet.specs.Packets.{input_of, ipv4_source, ipv4_destination}
 use Rattle.packet.proofs.Theorems.{ipv4-long}
 
 module _ (p : List ℕ) where

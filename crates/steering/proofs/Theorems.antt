@@ -3,7 +3,8 @@ use Rattle.octets.specs.Prelude.{◌≡◌, refl, sym, ap, ◌∙◌, List, ◌+
 use Rattle.toeplitz.specs.Hash.{published_hash}
 use Rattle.packet.specs.Packets.{PacketType, no_type, hash_type, is_ipv4, is_fragment, kind_of, input_of, ipv4_source, ipv4_destination}
 use Rattle.packet.proofs.Fragments.{fragment-plain, addresses-input}
-use Rattle.steering.specs.Steering.{is_set, plain_type, type_used, queue_of, Choice, unhashed, hashed, queue_in, hashed_to, chosen, steered, choice_of}
+use Rattle.steering.specs.Steering.{is_set, plain_type, type_used, queue_of, Choice, unhashed, hashed, queue_in, hashed_to}
+use Rattle.steering.specs.Steering.{chosen, steered, choice_of}
 use Rattle.steering.specs.declared.Steered.{Steered}
 use Rattle.steering.specs.declared.Steered.TheVariants.{NoType, Hashed}
 

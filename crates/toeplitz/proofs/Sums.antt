@@ -1,5 +1,6 @@
 -- XOR is associative, and what follows for the XOR of many numbers.
-use Rattle.octets.specs.Prelude.{◌≡◌, refl, sym, ap, ap₂, ◌∙◌, ℕ, zero, suc, ◌+◌, ◌*◌, ◌/◌, ◌%◌, ◌<◌, add-zero, ℕ_discrete, arith, bit_xor, xor_zero_r}
+use Rattle.octets.specs.Prelude.{◌≡◌, refl, sym, ap, ap₂, ◌∙◌, ℕ, zero, suc, ◌+◌, ◌*◌, ◌/◌, ◌%◌, ◌<◌, add-zero, ℕ_discrete}
+use Rattle.octets.specs.Prelude.{arith, bit_xor, xor_zero_r}
 use native.Mathlib.Nat.{div-add-mod', add-suc}
 use lib.Arith.{bin_ind}
 use lib.Bits.{xor_shr, xor_mod, xor_comm}

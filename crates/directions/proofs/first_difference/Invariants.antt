@@ -1,3 +1,4 @@
+-- The loop of `directions::first_difference`: the two windows at bit j, and all below j are equal.
 use Rattle.octets.specs.Prelude.{◌≡◌, ◌≤◌, ◌+◌, ◌*◌, ◌-◌}
 use Rattle.toeplitz.specs.Hash.{window_at}
 use Rattle.directions.specs.Inner.{SameBelow}

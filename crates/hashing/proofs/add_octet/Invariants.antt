@@ -1,3 +1,4 @@
+-- The loop of `hashing::add_octet`: the window at bit j of the octet, and the bits below j are added.
 use Rattle.octets.specs.Prelude.{◌≡◌, ◌≤◌, ◌+◌, ◌*◌, ◌-◌}
 use Rattle.toeplitz.specs.Hash.{window_at}
 use Rattle.toeplitz.specs.Inner.{hash_below}

@@ -1,3 +1,4 @@
+-- The loop of `hashing::hash_octets`: the input bits of the octets below `at` are added.
 use Rattle.octets.specs.Prelude.{◌≡◌, ◌≤◌, ◌*◌, ◌-◌, length}
 use Rattle.toeplitz.specs.Inner.{hash_below}
 use Rattle.hashing.proofs.hash_octets.Given as goal
