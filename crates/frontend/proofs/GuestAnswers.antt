@@ -3,7 +3,6 @@ use Rattle.octets.specs.Prelude.{◌≡◌, refl, sym, ap, ◌∙◌, List, ◌�
 use Rattle.octets.specs.Outcome.{Outcome, value, refused}
 use Rattle.octets.proofs.Truth.{chain, neither, beside}
 use Rattle.octets.proofs.Outcomes.{refused-same, value-not-refused}
-use Rattle.toeplitz.specs.Refusals.{key_length_wrong}
 use Rattle.messages.specs.Wire.{type_in}
 use Rattle.page.specs.Refusals.{page_wrong, requests_wrong, responses_wrong}
 use Rattle.page.specs.Page.{page_size, area_size}

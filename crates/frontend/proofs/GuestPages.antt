@@ -168,7 +168,8 @@ module _ (g : GuestState) (page : List ℕ) (good : Good g) where
 
 -- of a page only its length, req_cons, rsp_prod and the response area are read
 module _ (g : GuestState) (p q : List ℕ) (size : length p ≡ length q) (cons : count_in p req_cons_at ≡ count_in q req_cons_at)
-    (prod : count_in p rsp_prod_at ≡ count_in q rsp_prod_at) (area : (o : ℕ) → o < area_size → get_or p (responses_at + o) 0 ≡ get_or q (responses_at + o) 0) where
+    (prod : count_in p rsp_prod_at ≡ count_in q rsp_prod_at)
+    (area : (o : ℕ) → o < area_size → get_or p (responses_at + o) 0 ≡ get_or q (responses_at + o) 0) where
   found_alike : found g p ≡ found g q
   unfolding found
   found_alike = rw (size, cons, prod) refl

@@ -1,5 +1,5 @@
 -- What a start does, by what it finds and by what the writer answers.
-use Rattle.octets.specs.Prelude.{◌≡◌, refl, sym, ap, ◌∙◌, List, ◌++◌, ℕ, ◌+◌, ◌-◌, ◌≤◌, ◌<◌, arith, length, drop, eqb, leb, leb-false}
+use Rattle.octets.specs.Prelude.{◌≡◌, refl, sym, ap, ◌∙◌, List, ◌++◌, ℕ, ◌-◌, ◌≤◌, ◌<◌, arith, length, drop, eqb, leb, leb-false}
 use Rattle.octets.specs.Outcome.{Outcome, value, refused}
 use Rattle.octets.proofs.Outcomes.{value_same, refused-same, value-not-refused, test-value}
 use Rattle.octets.proofs.Truth.{by-test}

@@ -49,7 +49,8 @@ allowed-most set_mapping st e = leb-true _ _ e
 allowed-most none st e = omega (arith, eqb-true st not_supported e)
 
 -- what the header and the status tell, from what was read
-pub long-told : (n : ℕ) (m : List ℕ) → header_size + field_size ≤ length m → length m - header_size ≡ n → n ≡ size_in m → length m ≡ header_size + size_in m
+pub long-told : (n : ℕ) (m : List ℕ) → header_size + field_size ≤ length m → length m - header_size ≡ n → n ≡ size_in m
+    → length m ≡ header_size + size_in m
 long-told n m l e s = omega arith
 
 pub flags-told : (t st : ℕ) (b x : Bool) (m : List ℕ) → st ≡ status_in m → b ≡ carries_flags (request_of t) st → b ≡ x
@@ -96,7 +97,8 @@ module _ (t : ℕ) (m : List ℕ) where
     pub refuse-status : status_allowed (request_of t) (status_in m) ≡ false → refused not_an_ack ≡ read_ack t m
     refuse-status h = read-refused t m (λ x. false≢true (sym h ∙ x.allowed))
 
-    pub accept-status : length m ≡ header_size + size_in m → type_in m ≡ ack_type → size_in m ≡ field_size → status_allowed (request_of t) (status_in m) ≡ true
+    pub accept-status : length m ≡ header_size + size_in m → type_in m ≡ ack_type → size_in m ≡ field_size
+        → status_allowed (request_of t) (status_in m) ≡ true
         → value (status (status_in m)) ≡ read_ack t m
     accept-status long type size allowed =
         let x : Acks (request_of t) m =

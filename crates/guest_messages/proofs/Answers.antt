@@ -57,6 +57,7 @@ module _ (t st : ℕ) where
   read_back small allowed = by (carries_flags (request_of t) st) refl
     where
       by : (b : Bool) → carries_flags (request_of t) st ≡ b
-          → read_ack t (message ack_type (cond b (flags_payload all_flags) (status_payload st))) ≡ value (cond b (status_and_flags st all_flags) (status st))
+          → read_ack t (message ack_type (cond b (flags_payload all_flags) (status_payload st)))
+          ≡ value (cond b (status_and_flags st all_flags) (status st))
       by true e = with-flags e
       by false e = with-status e small allowed

@@ -85,7 +85,8 @@ fields_snoc [] x = append-nil (octets_of field_size x)
 fields_snoc (y ∷ xs) x = rw (fields_snoc xs x, append_assoc) refl
 
 -- one field more
-pub fields-next : (xs b b' : List ℕ) (k : ℕ) → k < length xs → length b' ≡ length xs * field_size → b' ≡ fields_of (take k xs) ++ drop (k * field_size) b
+pub fields-next : (xs b b' : List ℕ) (k : ℕ) → k < length xs → length b' ≡ length xs * field_size
+    → b' ≡ fields_of (take k xs) ++ drop (k * field_size) b
     → sets b' (k * field_size) (octets_of field_size (get_or xs k 0)) ≡ fields_of (take (k + 1) xs) ++ drop ((k + 1) * field_size) b
 fields-next xs b b' k l long e =
     let f = fields_of (take k xs) in

@@ -23,7 +23,8 @@ module _ (m : List ℕ) (o : AreOctets m) where
   one_field : length m ≡ header_size + field_size → payload_in m ≡ octets_of field_size (status_in m)
   one_field long = sym (octets-number field_size m header_size o (omega arith) ∙ take_all field_size (payload_in m) (rw length-drop (omega arith)))
 
-  two_fields : length m ≡ header_size + (field_size + field_size) → payload_in m ≡ octets_of field_size (status_in m) ++ octets_of field_size (ack_flags_in m)
+  two_fields : length m ≡ header_size + (field_size + field_size)
+      → payload_in m ≡ octets_of field_size (status_in m) ++ octets_of field_size (ack_flags_in m)
   two_fields long =
       let first : octets_of field_size (status_in m) ≡ take field_size (payload_in m) = octets-number field_size m header_size o (omega arith) in
       let second : octets_of field_size (ack_flags_in m) ≡ drop field_size (payload_in m) =

@@ -33,7 +33,8 @@ module _ (s : Settings) (rest : List ℕ) where
       carried-message s set_flags_type p rest (omega arith) (rw long (omega arith))
       ∙ sym (flags-set s (length p) (p ++ rest) flags (sym read) (set-flags-done s.queues (length p) (p ++ rest) long (rw read l)))
 
-  pub set-key-carried : (key : List ℕ) → length key ≡ key_length → carried_message s (message set_key_type key) rest ≡ answered (with_key s key) success
+  pub set-key-carried : (key : List ℕ) → length key ≡ key_length
+      → carried_message s (message set_key_type key) rest ≡ answered (with_key s key) success
   unfolding request_of
   set-key-carried key long =
       carried-message s set_key_type key rest (omega arith) (rw long (omega arith))

@@ -14,6 +14,7 @@ unfolding request_of
 returns c =
     let stored = c.with_status.ensures in
     elim c.else-kind-eq-GET_FLAGS.branch [
-      | else-kind-eq-GET_FLAGS-via-then-kind-eq-GET_FLAGS+else-status-eq-SUCCESS w ↦ rw (w.if-kind-eq-GET_FLAGS.true, ne_eqb _ _ w.if-status-eq-SUCCESS.false) stored
+      | else-kind-eq-GET_FLAGS-via-then-kind-eq-GET_FLAGS+else-status-eq-SUCCESS w ↦
+          rw (w.if-kind-eq-GET_FLAGS.true, ne_eqb _ _ w.if-status-eq-SUCCESS.false) stored
       | else-kind-eq-GET_FLAGS-via-else-kind-eq-GET_FLAGS w ↦ rw (no-flags _ _ w.if-kind-eq-GET_FLAGS.false) stored
     ]

@@ -27,5 +27,10 @@ unfolding request_of
 returns c =
     let a = c.args in
     let held = settings_of a.queues a.flags.now a.key.now a.entries.now a.count.now in
-    simp (ne_eqb _ _ c.if-kind-eq-GET_FLAGS.false, ne_eqb _ _ c.if-kind-eq-SET_FLAGS.false, ne_eqb _ _ c.if-kind-eq-SET_KEY.false, ne_eqb _ _ c.if-kind-eq-SET_MAPPING.false)
+    simp (
+      ne_eqb _ _ c.if-kind-eq-GET_FLAGS.false,
+      ne_eqb _ _ c.if-kind-eq-SET_FLAGS.false,
+      ne_eqb _ _ c.if-kind-eq-SET_KEY.false,
+      ne_eqb _ _ c.if-kind-eq-SET_MAPPING.false,
+    )
     (carried-refused none held a.size a.payload.now 0 (none-supported a.queues a.size a.payload.now))
