@@ -2,7 +2,7 @@
 -- struct that is declared. `Lending.antt` takes it so behind a `&mut`, and `Looking.antt` some of its fields behind a `&`.
 --     part                       a part by its type and its place
 --     members, fields_in, Again, together    a struct's fields as the logic has them in memory, and the way back
---     Simple F, number, array    a field whose values are the part's as they stand, and the two kinds of those
+--     Simple F, number, array, array_row    a field whose values are the part's as they stand, and the kinds of those
 --     Flat                       a struct of simple fields, by what is declared of it
 --     row_by, parts_of, values_of, struct_by    its type, its parts, each where the layout puts its field, their values, and back
 --     opens                      it opens into its parts, and is joined again from any values of them
@@ -24,6 +24,9 @@ use types.Share.{PartsLaws}
 use base.Share
 use base.Share.{halves}
 use denote.Memory.{mem, shares, share_laws, shared_of, hidden_shr, fields_shared}
+use denote.Array.{Array}
+use denote.Plain.{UInt}
+use denote.Struct.Field.{row_field}
 use denote.Struct.Struct.{Struct-row_laws}
 use denote.Struct.Declared.{shape}
 
@@ -72,6 +75,10 @@ number w = record { value = λ x. x; back = λ y. y; same = λ x. refl; again = 
 
 abbrev pub array : (w : Width) (n : ℕ) → Simple (array_field (uint_field w) n)
 array w n = record { value = λ xs. xs; back = λ ys. ys; same = λ xs. sym (map-id xs); again = λ ys. refl; one = refl }
+
+-- as a struct's module has an array today: a field at the array's own row
+abbrev pub array_row : (w : Width) (n : ℕ) → Simple (row_field (Array (UInt w) n))
+array_row w n = record { value = λ xs. xs; back = λ ys. ys; same = λ xs. refl; again = λ ys. refl; one = refl }
 
 abbrev pub Simples : List Field → Type 0
 Simples [] = Unit {0}
