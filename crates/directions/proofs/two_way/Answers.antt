@@ -1,5 +1,5 @@
 -- `directions::two_way` meets its contract: the tests and the two searches pick the case of `two_way_outcome`.
-use Rattle.octets.specs.Prelude.{◌≡◌, sym, ap, ◌∙◌, List, ℕ, ◌+◌, ◌*◌, ◌≤◌, length, eq-eqb, le-leb}
+use Rattle.octets.specs.Prelude.{◌≡◌, sym, ap, ◌∙◌, List, ℕ, ◌+◌, ◌*◌, ◌≤◌, arith, length, eq-eqb, le-leb}
 use Rattle.octets.specs.Outcome.{value}
 use Rattle.toeplitz.specs.Hash.{key_length}
 use Rattle.toeplitz.specs.TwoWay.{last_type, Verdict, differ_at, verdict, two_way_outcome}
@@ -13,17 +13,17 @@ answered key t v k l e = simp (eq-eqb _ _ k, le-leb _ _ l) (ap value (sym e))
 pub returns : goal.returns
 returns c =
     let address = c.address_size-address.ensures.0 in
-    answered _ _ _ c.if-key-ne-KEY_LENGTH.false c.if-hash_type-gt-LAST_TYPE.false
+    answered _ _ _ (omega arith) (omega arith)
     (nowhere _ _ (rw address at c.in_default.ensures) (rw (address, c.port_size-port.ensures.0) at c.in_default-in_ports.ensures))
 
 pub returns-in-At : goal.returns-in-At
 returns-in-At c =
-    answered _ _ _ c.if-key-ne-KEY_LENGTH.false c.if-hash_type-gt-LAST_TYPE.false
+    answered _ _ _ (omega arith) (omega arith)
     (in-addresses _ _ _ (rw c.address_size-address.ensures.0 at c.in-At.ensures))
 
 pub returns-in-At-in_ports : goal.returns-in-At-in_ports
 returns-in-At-in_ports c =
     let address = c.address_size-address.ensures.0 in
     ap (λ (x : ℕ). value (differ_at (x * 16 + c.in-At-in_ports.b))) address
-    ∙ answered _ _ _ c.if-key-ne-KEY_LENGTH.false c.if-hash_type-gt-LAST_TYPE.false
+    ∙ answered _ _ _ (omega arith) (omega arith)
     (in-ports _ _ _ (rw address at c.in_default.ensures) (rw (address, c.port_size-port.ensures.0) at c.in-At-in_ports.ensures))
