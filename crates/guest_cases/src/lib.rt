@@ -18,6 +18,9 @@ const START_SET_KEY: u8 = 3;
 
 pub const EVENT: u8 = 5;
 
+// The number of an event that has read an ack.
+const ACK_READ: u64 = 1;
+
 // A new guest, from arrays in which setup has every octet to write.
 pub fn new_guest() -> Guest
     ensures { Good (state_of result) }
@@ -46,7 +49,7 @@ pub fn call(g: Guest, page: &mut [u8], kind: u8, body: &[u8]) -> Guest
     }
     let n = cases::number_up_to(page.len(), body);
     let left = call_on(g, &mut page[0..n], kind, &body[2..]);
-    print_left(left, &page[..]);
+    print_left(&left, &page[..]);
     left
 }
 
@@ -139,7 +142,7 @@ fn count_in(given: &[u8]) -> usize
 }
 
 // The rest of the line: the guest's phase and own counts, and all octets of the buffer.
-fn print_left(g: Guest, page: &[u8]) {
+fn print_left(g: &Guest, page: &[u8]) {
     let n = g.numbers;
     case_tools::print_form(
         b" phase # req_prod # rsp_cons # page $\n",
@@ -154,11 +157,16 @@ fn print_left(g: Guest, page: &[u8]) {
 
 // The number of an event's answer, and what the ack says where it is here.
 fn print_answer(answer: GuestAnswer) {
-    print_number(b"guest ", answer_number(answer));
     match answer {
-        GuestAnswer::AckedStatus(status) => print_number(b" status ", status as u64),
-        GuestAnswer::AckedFlags(flags) => print_number(b" status 0 flags ", flags as u64),
-        _ => {}
+        GuestAnswer::AckedStatus(status) => {
+            print_number(b"guest ", ACK_READ);
+            print_number(b" status ", status as u64);
+        }
+        GuestAnswer::AckedFlags(flags) => {
+            print_number(b"guest ", ACK_READ);
+            print_number(b" status 0 flags ", flags as u64);
+        }
+        other => print_number(b"guest ", answer_number(other)),
     }
 }
 
@@ -167,7 +175,7 @@ fn answer_number(answer: GuestAnswer) -> u64 {
         GuestAnswer::Pending => guest_numbers::PENDING as u64,
         GuestAnswer::RequestOwed => guest_numbers::REQUEST_OWED as u64,
         GuestAnswer::Refused(refusal) => guest_numbers::refusal_number(refusal) as u64,
-        _ => 1,
+        _ => ACK_READ,
     }
 }
 
