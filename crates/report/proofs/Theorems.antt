@@ -1,6 +1,6 @@
 -- What readers ask of a report, over the definitions alone. A contract says that the call answers what `report_on` says;
 -- these say what that means.
-use Rattle.octets.specs.Prelude.{◌≡◌, refl, sym, ap, ◌∙◌, List, [], ◌∷◌, ◌++◌, Bool, true, false, cond, ◌&&◌, false≢true, ℕ, ◌+◌, ◌≤◌, arith, length}
+use Rattle.octets.specs.Prelude.{◌≡◌, refl, sym, ap, ◌∙◌, List, [], ◌∷◌, ◌++◌, Bool, true, false, cond, ◌&&◌, false≢true, ℕ, ◌≤◌, arith, length}
 use Rattle.octets.specs.Prelude.{take, replicate, length-append, length-drop, take-append-le, eqb, leb, leb-true, eq-eqb}
 use Rattle.octets.specs.Outcome.{Outcome, value, refused, and_then}
 use Rattle.octets.proofs.Truth.{both_true, by-test}

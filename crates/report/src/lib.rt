@@ -41,6 +41,7 @@ pub struct Report {
 }
 
 // The report on a settings file and a capture.
+#[tactic(auto, unfolding(crate::specs::Reports::report_on))]
 pub fn report_on(settings: &[u8], captured: &[u8]) -> Report
     ensures { (report_of result ≡ report_on settings.now captured.now) × (result.counts.queues ≤ max_queues) }
 {
