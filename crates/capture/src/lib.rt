@@ -35,7 +35,7 @@ pub enum Order {
 }
 
 // What a record holds: an Ethernet frame, or an IP packet at its start.
-#[derive(Drop)]
+#[derive(Clone, Copy)]
 pub enum Link {
     Ethernet,
     Raw,
