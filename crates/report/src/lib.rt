@@ -23,7 +23,7 @@ pub const MAX_QUEUES: usize = interface::MAX_QUEUES as usize;
 
 // Packets and captured octets for each queue, of which the first `queues` are in operation; how many packets have no
 // hash, which are counted on queue 0 too; and the total.
-#[derive(Drop)]
+#[derive(Clone, Copy)]
 pub struct Counts {
     pub queues: u8,
     pub packets: [u32; MAX_QUEUES],
