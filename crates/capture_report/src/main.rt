@@ -5,10 +5,10 @@
 // One octet more than the longest file, to tell one that is too long.
 const ROOM: usize = report::MAX_FILE + 1;
 
-fn main() {
+fn main(rt: HostRuntime) {
     let mut settings = [0u8; ROOM];
     let mut captured = [0u8; ROOM];
-    let n = files::read(b"settings", &mut settings);
-    let k = files::read(b"capture", &mut captured);
+    let n = files::read(&rt, b"settings", &mut settings);
+    let k = files::read(&rt, b"capture", &mut captured);
     text::print(report_text::report_text(&settings[..n], &captured[..k]));
 }

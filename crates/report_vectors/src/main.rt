@@ -32,7 +32,7 @@ pub struct Kept {
     pub captured: usize,
 }
 
-fn main() {
+fn main(rt: HostRuntime) {
     let mut buffer = io::large_buffer();
     let mut settings = io::large_buffer();
     let mut captured = io::large_buffer();
@@ -42,7 +42,7 @@ fn main() {
     };
     for part in 0..cases::PARTS {
         // A file that is not there has no case.
-        let n = cases::load_part(part, &mut buffer);
+        let n = cases::load_part(&rt, part, &mut buffer);
         kept = run(&buffer[..n], &mut settings, &mut captured, kept);
     }
 }
