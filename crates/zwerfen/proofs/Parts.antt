@@ -1,17 +1,11 @@
 -- An interface and a guest in memory are their parts, side by side, and back, as `Structs.antt` of the crate `lending` has it.
-use Rattle.octets.specs.Prelude.{refl, List, [], ◌∷◌, Bool, true, false, ◌≡◌}
+use Rattle.octets.specs.Prelude.{List, [], ◌∷◌, Bool, true, false}
+use mir.Syntax.{w8, w64}
 use Rattle.interface.specs.contracts.Interface as T
 use Rattle.interface.proofs.Interface.TheLaws as T'
 use Rattle.guest_steps.specs.contracts.Guest as G
 use Rattle.guest_steps.proofs.Guest.TheLaws as G'
-use Rattle.lending.proofs.Walks.{RattleType, lone}
-use Rattle.lending.proofs.Structs.{Flat, Simple}
-use denote.Struct.Field.{row_field}
-use denote.Builtin.{Array, u8, u64}
-
--- an array of numbers, as a field that is declared today
-abbrev array : (R : RattleType) → R.mir ≡ lone R.mir ∷ [] → Simple (row_field R)
-array R one = record { value = λ x. x; back = λ y. y; same = λ x. refl; again = λ y. refl; one = one }
+use Rattle.lending.proofs.Structs.{Flat, array_row}
 
 abbrev pub interface : Flat
 interface = record {
@@ -19,13 +13,7 @@ interface = record {
   propositions = T.the_propositions;
   laws = T'.the_laws;
   copy = T'.the_copy;
-  simple = (
-    array (Array u64 tt 8) refl,
-    (
-      array (Array u8 tt 8) refl,
-      (array (Array u8 tt 1024) refl, (array (Array u8 tt 24) refl, (array (Array u8 tt 40) refl, (array (Array u8 tt 128) refl, tt)))),
-    ),
-  );
+  simple = (array_row w64 8, (array_row w8 8, (array_row w8 1024, (array_row w8 24, (array_row w8 40, (array_row w8 128, tt))))));
   free = λ xs. tt;
 }
 
@@ -39,9 +27,6 @@ guest = record {
   propositions = G.the_propositions;
   laws = G'.the_laws;
   copy = G'.the_copy;
-  simple = (
-    array (Array u64 tt 6) refl,
-    (array (Array u8 tt 1032) refl, (array (Array u8 tt 8) refl, (array (Array u8 tt 16) refl, tt))),
-  );
+  simple = (array_row w64 6, (array_row w8 1032, (array_row w8 8, (array_row w8 16, tt))));
   free = λ xs. tt;
 }
