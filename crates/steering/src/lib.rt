@@ -12,7 +12,7 @@ ghost use Rattle.steering.specs.Inner.{OwnInput, steered_ip};
 
 use packet::Found;
 
-#[derive(Drop)]
+#[derive(Clone, Copy)]
 pub enum Steered {
     // No hash type is used for the packet.
     NoType { queue: u8 },
