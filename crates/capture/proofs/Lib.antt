@@ -7,3 +7,4 @@ pub mod Found
 pub mod Frames
 pub mod Theorems
 pub mod Exactly
+pub mod Readers
