@@ -10,7 +10,8 @@ use Rattle.page.specs.Page.{page_size, area_size}
 use Rattle.page.proofs.Tests.{RefusesExactly}
 use Rattle.ring.specs.Reading.{whole}
 use Rattle.interface.specs.States.{HostState, queues_wrong, interface_at_setup, set_up_outcome}
-use Rattle.interface.specs.Events.{After, waiting, ack_written, ack_owed, unread, unread_acks, owes, responded, read_in, carried_over, proceeded, event_of}
+use Rattle.interface.specs.Events.{After, waiting, ack_written, ack_owed, unread, unread_acks, owes, responded}
+use Rattle.interface.specs.Events.{read_in, carried_over, proceeded, event_of}
 use Rattle.backend.specs.Rules.{Accepted, room, after_reading}
 use Rattle.backend.proofs.Branches.{event-ways, proceeded-cases, event-cases}
 

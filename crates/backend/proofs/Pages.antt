@@ -2,7 +2,8 @@
 use Rattle.octets.specs.Prelude.{◌≡◌, refl, ◌∙◌, List, inl, inr, ℕ, ◌+◌, ◌%◌, ◌≤◌, ◌<◌, arith, length, get_or, eqb, leb}
 use Rattle.octets.proofs.Truth.{same_test}
 use Rattle.messages.specs.Requests.{max_ack}
-use Rattle.page.specs.Page.{page_size, area_size, req_cons_at, req_prod_at, rsp_cons_at, rsp_prod_at, requests_at, responses_at, count_in, less, counted, put}
+use Rattle.page.specs.Page.{page_size, area_size, req_cons_at, req_prod_at, rsp_cons_at, rsp_prod_at, requests_at, responses_at}
+use Rattle.page.specs.Page.{count_in, less, counted, put}
 use Rattle.ring.specs.Reading.{whole, received_from}
 use Rattle.ring.specs.Writing.{fitting, sent_octets, sent}
 use Rattle.ring.proofs.Sides.{sent-moves, sent-elsewhere}

@@ -19,7 +19,8 @@ pub counted-length : (page : List ℕ) (c p : ℕ) → length (counted page c p)
 counted-length page c p = count-length (with_count page req_cons_at c) rsp_prod_at p ∙ count-length page req_cons_at c
 
 -- an octet that is none of the guest's counts
-pub guest-counted-beside : (page : List ℕ) (c p i : ℕ) → (i < req_prod_at) ⊎ (rsp_prod_at ≤ i) → get_or (counted_by_guest page c p) i 0 ≡ get_or page i 0
+pub guest-counted-beside : (page : List ℕ) (c p i : ℕ) → (i < req_prod_at) ⊎ (rsp_prod_at ≤ i)
+    → get_or (counted_by_guest page c p) i 0 ≡ get_or page i 0
 guest-counted-beside page c p i (inl low) =
     count-beside (with_count page rsp_cons_at c) req_prod_at p i (inl low) ∙ count-beside page rsp_cons_at c i (inl (omega arith))
 guest-counted-beside page c p i (inr high) =

@@ -189,7 +189,8 @@ present-take xs = by (begins_whole xs) refl
   where
     by : (b : Bool) → begins_whole xs ≡ b → present_part xs ≡ take (length (present_part xs)) xs
     by true e =
-        let size : length (first_message xs) ≡ message_length xs = length-take-le (message_length xs) xs (leb-true (message_length xs) (length xs) e) in
+        let n = message_length xs in
+        let size : length (first_message xs) ≡ n = length-take-le n xs (leb-true n (length xs) e) in
         rw (part-whole xs e) (sym (ap (λ (n : ℕ). take n xs) size))
     by false e = rw (part-all xs e) (sym (take-length xs))
 

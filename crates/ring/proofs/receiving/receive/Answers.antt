@@ -9,7 +9,8 @@ read_payload-more-requires-clause-n_le_area_size c =
     let a = c.args in
     let side : Incoming = incoming_of a.header.now a.payload.now a.taken a.cons in
     let read = c.read_header-some.ensures in
-    let within = taken-most a.area a.page.now a.cons a.unread side.message c.read_header-some.new.header _ read.value read.header_after c.requires.2 in
+    let header = c.read_header-some.new.header in
+    let within = taken-most a.area a.page.now a.cons a.unread side.message header _ read.value read.header_after c.requires.2 in
     (omega arith, within)
 
 pub returns-clause-result_after : goal.returns-clause-result_after
