@@ -25,7 +25,8 @@ high-four xs i =
     rw (two, three) (omega arith)
 
 -- two lists with equal octets at two places have equal numbers there
-big-same : (n : ℕ) (xs ys : List ℕ) (i j : ℕ) → ((k : ℕ) → k < n → get_or xs (i + k) 0 ≡ get_or ys (j + k) 0) → big_endian_at n xs i ≡ big_endian_at n ys j
+big-same : (n : ℕ) (xs ys : List ℕ) (i j : ℕ) → ((k : ℕ) → k < n → get_or xs (i + k) 0 ≡ get_or ys (j + k) 0)
+    → big_endian_at n xs i ≡ big_endian_at n ys j
 unfolding big_endian_at
 big-same zero xs ys i j h = refl
 big-same (suc n) xs ys i j h =

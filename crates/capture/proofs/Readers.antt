@@ -8,8 +8,8 @@
 --     answered         a call: what meets it is had; then there is what the result owns and the tokens again, and what the callee says of it
 --     ends             a result with the tokens, and what is ensured of it, is what a contract asks at the end that says nothing of parameters
 -- The laws and the steps take `Logic`. The rest assumes nothing.
-use Rattle.lending.proofs.Walks.{refl, ℕ, zero, suc, ◌<◌, ◌^◌, List, [], ◌∷◌, T as Holds, Ura, w64, Ty, Callee, Val, WT, has_ty, vint, SProp, ent, sep}
-use Rattle.lending.proofs.Walks.{emp, id⊢, emp∗, guard, via, snd∗, ex_e, Fml, ftrue, fsep, Lfts, fact, Item, ‵, raw, ◌⊛◌}
+use Rattle.lending.proofs.Walks.{refl, ℕ, zero, suc, ◌<◌, ◌^◌, List, [], ◌∷◌, T as Holds, Ura, w64, Ty, Callee, Val, WT, has_ty, vint, SProp, ent}
+use Rattle.lending.proofs.Walks.{sep, emp, id⊢, emp∗, guard, via, snd∗, ex_e, Fml, ftrue, fsep, Lfts, fact, Item, ‵, raw, ◌⊛◌}
 use Rattle.lending.proofs.Walks.{some, later, pop, Goal, Step as KStep, ◌$◌, ◌∵◌, !, qed, by, move, split, use0, use1, pick, await, check, updating}
 use Rattle.lending.proofs.Walks.{at_once, show, frame, RattleType, Is, shows, uint_Makes, usize, NamedLft, named_lft, type_at, owned, peeks, heard}
 use Rattle.lending.proofs.Walks.{Declared, Ended, Clauses, AtExit, Lasts, at_exit, lasts, closing, ensured, Args, alive, triple_of, Contract, Triple}

@@ -43,8 +43,10 @@ returns-then-answer-ne-SET_UP c =
 
 pub returns : goal.returns
 returns c =
-    let told = c.set_up-set_up.ensures in
-    (c.carry_out_all.ensures.0 ∙ whole c.args.file.now _ _ _ c.queue_count.ensures told.0 told.1 c.if-answer-ne-SET_UP.false, c.carry_out_all.ensures.1)
+    let told = c.set_up-set_up.ensures in (
+      c.carry_out_all.ensures.0 ∙ whole c.args.file.now _ _ _ c.queue_count.ensures told.0 told.1 c.if-answer-ne-SET_UP.false,
+      c.carry_out_all.ensures.1,
+    )
 
 pub slice_bounds-carry_out_all-count : goal.slice_bounds-carry_out_all-count
 slice_bounds-carry_out_all-count c =
