@@ -4,6 +4,6 @@
 #![tactic(auto)]
 
 mod driver;
-mod hashing;
+mod hash_calls;
 mod host;
 mod writing;
