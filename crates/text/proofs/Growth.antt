@@ -1,6 +1,7 @@
--- Texts that grow: nothing added, one growth after another, and the digits that stand at the start of a buffer.
-use Rattle.octets.specs.Prelude.{◌≡◌, sym, ap, ◌∙◌, List, [], ◌++◌, append_assoc, append-nil, ℕ, ◌+◌, ◌≤◌}
-use Rattle.octets.specs.Prelude.{arith, length, take, length-append, length-take}
+-- Texts that grow: nothing added, one octet added, and one growth after another.
+use Rattle.octets.specs.Prelude.{◌≡◌, refl, sym, ap, ◌∙◌, List, [], ◌∷◌, ◌++◌, append_assoc, append-nil, ℕ, ◌+◌, ◌<◌, ◌≤◌}
+use Rattle.octets.specs.Prelude.{add-one, arith, length, get_or, take, set, length-append, length-take}
+use lib.Seq.{take-suc-set, take-suc}
 use Rattle.text.specs.Text.{text_of, Adds, Prints}
 use Rattle.text.specs.declared.Text.{Text}
 
@@ -29,6 +30,16 @@ prints-then {t} {r} {xs} {ys} p a =
       fits = omega (arith, a.longer, length-append xs ys, length-take r.length r.octets, ap length text);
       text = text;
     }
+
+-- a store at the end
+pub adds-octet : (t : Text) (b : ℕ) → t.length < length t.octets
+    → Adds t (b ∷ []) (record { octets = set t.octets t.length b; length = t.length + 1 })
+adds-octet t b h = record { longer = refl; text = rw add-one (take-suc-set t.octets t.length b h) }
+
+-- the next octet of a list of which i were added
+pub adds-next : {t r s : Text} (xs : List ℕ) (i : ℕ) → i < length xs → Adds t (take i xs) r → Adds r (get_or xs i 0 ∷ []) s
+    → Adds t (take (i + 1) xs) s
+adds-next xs i h a b = rw (add-one, take-suc xs i 0) (adds_then a b)
 
 -- the first k octets of a buffer, k at most m, that are xs
 pub adds-first : {t r : Text} (m k : ℕ) {xs : List ℕ} (buffer : List ℕ) → take k buffer ≡ xs → k ≡ length (take k buffer) → k ≤ m
