@@ -1,3 +1,2 @@
 -- The laws of `settings_file`.
 pub mod Loads
-pub mod Firsts
