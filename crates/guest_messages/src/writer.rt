@@ -2,7 +2,7 @@
 // behind it.
 ghost use Rattle.std.specs.Prelude.{◌≡◌, ◌++◌, ◌+◌, ◌≤◌, ◌<◌, MatchResult};
 ghost use Rattle.octets.specs.Prelude.{length, drop};
-ghost use Rattle.messages.specs.Wire.{header_size, header, message};
+ghost use Rattle.messages.specs.Wire.{header_size, max_payload, header, message};
 ghost use Rattle.messages.specs.Settings.{max_entries, is_listed};
 ghost use Rattle.guest_messages.specs.Writer.{fields_of, get_flags_message, set_flags_message, set_key_message, set_mapping_message, after, written};
 ghost use Rattle.octets.specs.Outcome.{value};
@@ -80,7 +80,7 @@ fn write_fields(buffer: &mut [u8], kind: u32, numbers: &[u64]) -> Result<usize, 
 // The header of a message with a payload of `size` octets, if the buffer has room for both; answers how long both are.
 #[tactic(auto, using(crate::proofs::Buffers::header_put))]
 fn write_header(buffer: &mut [u8], kind: u32, size: usize) -> Result<usize, WriteRefusal>
-    requires { size ≤ 1024 }
+    requires { size ≤ max_payload }
     ensures { MatchResult result
         (λ n. (n ≡ header_size + size) × (n ≤ length buffer.old) × (buffer.new ≡ header kind size ++ drop header_size buffer.old))
         (λ refusal. (refusal ≡ WriteRefusal.Buffer) × (length buffer.old < header_size + size) × (buffer.new ≡ buffer.old)) }
