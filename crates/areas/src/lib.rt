@@ -2,7 +2,7 @@
 #![tactic(auto)]
 
 ghost use Rattle.std.specs.Prelude.{◌≡◌, ◌+◌, ◌≤◌};
-ghost use Rattle.octets.specs.Prelude.{min, length, take, drop, sets};
+ghost use Rattle.octets.specs.Prelude.{length, take, drop, sets};
 ghost use Rattle.page.specs.Page.{area_size, octets_in, put};
 
 use page::AREA;
@@ -29,7 +29,7 @@ fn read_run(page: &[u8], at: usize, into: &mut [u8])
     ensures { into.new ≡ take (length into.old) (drop at page.now) }
 {
     let n = into.len();
-    octets::copy(into, &page[at..at + n]);
+    into.copy_from_slice(&page[at..at + n]);
 }
 
 // Puts `from` into the area that stands at `area`, from `count` on.
@@ -54,12 +54,5 @@ fn write_run(page: &mut [u8], at: usize, from: &[u8])
     ensures { page.new ≡ sets page.old at from.now }
 {
     let n = from.len();
-    octets::copy(&mut page[at..at + n], from);
-}
-
-// The lesser of two numbers.
-pub fn least(a: u64, b: u64) -> u64
-    ensures { result ≡ min a b }
-{
-    if a <= b { a } else { b }
+    page[at..at + n].copy_from_slice(from);
 }

@@ -8,37 +8,29 @@ ghost use Rattle.toeplitz.specs.Hash.{key_length, max_input};
 ghost use Rattle.toeplitz.specs.TwoWay.{last_type, address_size, port_size, two_way_outcome, two_way_outcome_of};
 ghost use Rattle.directions.specs.Inner.{FoundIn};
 
-use toeplitz::{KEY_LENGTH, LAST_TYPE, TwoWayAnswer, next_window, octet_window};
+use toeplitz::{KEY_LENGTH, LAST_TYPE, TwoWayRefusal, next_window, octet_window};
 
-// Where two runs of windows first differ.
-#[derive(Drop)]
-enum Found {
-    At(usize),
-    Nothing,
-}
-
-// Whether the two directions of every conversation have one hash under the key.
-pub fn two_way(key: &[u8], hash_type: u32) -> TwoWayAnswer
+// The lowest bit that, alone set, gives an input with another hash than its reverse; none where the two directions of every
+// conversation have one hash under the key.
+pub fn two_way(key: &[u8], hash_type: u32) -> Result<Option<usize>, TwoWayRefusal>
     ensures { two_way_outcome_of result ≡ two_way_outcome key.now hash_type }
 {
     if key.len() != KEY_LENGTH {
-        return TwoWayAnswer::KeyLength;
+        return Err(TwoWayRefusal::KeyLength);
     }
     if hash_type > LAST_TYPE {
-        return TwoWayAnswer::HashType;
+        return Err(TwoWayRefusal::HashType);
     }
     let address = address_size(hash_type);
     let port = port_size(hash_type);
-    let in_addresses = first_difference(key, 0, address);
-    if let Found::At(b) = in_addresses {
-        return TwoWayAnswer::No(b);
+    if let Some(bit) = first_difference(key, 0, address) {
+        return Ok(Some(bit));
     }
     // The ports stand behind two addresses, at eight bits to an octet.
-    let in_ports = first_difference(key, address * 2, port);
-    if let Found::At(b) = in_ports {
-        return TwoWayAnswer::No(address * 16 + b);
+    if let Some(bit) = first_difference(key, address * 2, port) {
+        return Ok(Some(address * 16 + bit));
     }
-    TwoWayAnswer::Yes
+    Ok(None)
 }
 
 // Octets of an address, and of a port, in an input of a type.
@@ -55,22 +47,20 @@ fn port_size(hash_type: u32) -> usize
     if hash_type % 2 == 0 { 0 } else { 2 }
 }
 
-// Compares the windows at the bits of the `size` octets from octet `at` on with those at the next `size`
-// octets, and tells the first bit of the part at which they differ.
-fn first_difference(key: &[u8], at: usize, size: usize) -> Found
+// The first bit of the `size` octets from octet `at` on whose window differs from that at the same bit of the next `size`
+// octets.
+fn first_difference(key: &[u8], at: usize, size: usize) -> Option<usize>
     requires { (length key.now ≡ key_length) × (at + (size + size) ≤ max_input) }
     ensures { FoundIn key.now (at * 8) ((at + size) * 8) (size * 8) result }
 {
     let mut left = octet_window(key, at);
     let mut right = octet_window(key, at + size);
-    let mut j: usize = 0;
-    while j < size * 8 {
+    for j in 0..size * 8 {
         if left != right {
-            return Found::At(j);
+            return Some(j);
         }
         left = next_window(key, left, at * 8 + j);
         right = next_window(key, right, (at + size) * 8 + j);
-        j += 1;
     }
-    Found::Nothing
+    None
 }

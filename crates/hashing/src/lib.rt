@@ -7,23 +7,23 @@ ghost use Rattle.octets.specs.Prelude.{cond, length, bit_xor};
 ghost use Rattle.toeplitz.specs.Hash.{key_length, max_input, published_hash, hash_outcome, hash_outcome_of};
 ghost use Rattle.toeplitz.specs.Inner.{hash_below};
 
-use toeplitz::{HashAnswer, KEY_LENGTH, MAX_INPUT, octet_window};
+use toeplitz::{HashRefusal, KEY_LENGTH, MAX_INPUT, is_set, next_window, octet_window};
 
 // The published hash of the input under the key.
-pub fn hash(key: &[u8], input: &[u8]) -> HashAnswer
+pub fn hash(key: &[u8], input: &[u8]) -> Result<u32, HashRefusal>
     ensures { hash_outcome_of result ≡ hash_outcome key.now input.now }
 {
     if key.len() != KEY_LENGTH {
-        return HashAnswer::KeyLength;
+        return Err(HashRefusal::KeyLength);
     }
     if input.len() > MAX_INPUT {
-        return HashAnswer::InputLength;
+        return Err(HashRefusal::InputLength);
     }
-    HashAnswer::Hash(hash_of(key, input))
+    Ok(hash_of(key, input))
 }
 
 // The published hash of the input under the key, or `otherwise` where `hash` refuses. A number is answered in a register,
-// an enum on the stack.
+// a Result on the stack, so this is no `unwrap_or` over `hash`.
 pub fn hash_or(key: &[u8], input: &[u8], otherwise: u32) -> u32
     ensures { result ≡ value_or otherwise (hash_outcome key.now input.now) }
 {
@@ -48,11 +48,9 @@ fn hash_octets(key: &[u8], input: &[u8]) -> u32
     requires { (length key.now ≡ key_length) × (length input.now ≤ max_input) }
     ensures { result ≡ published_hash key.now input.now }
 {
-    let mut sum: u32 = 0;
-    let mut at: usize = 0;
-    while at < input.len() {
+    let mut sum = 0;
+    for at in 0..input.len() {
         sum = add_octet(key, input, at, sum);
-        at += 1;
     }
     sum
 }
@@ -66,12 +64,10 @@ fn add_octet(key: &[u8], input: &[u8], at: usize, before: u32) -> u32
 {
     let mut window = octet_window(key, at);
     let mut sum = before;
-    let mut j: usize = 0;
-    while j < 8 {
+    for j in 0..8 {
         let here = window;
-        window = toeplitz::next_window(key, here, at * 8 + j);
-        sum = add_window(sum, toeplitz::is_set(input, at * 8 + j), here);
-        j += 1;
+        window = next_window(key, here, at * 8 + j);
+        sum = add_window(sum, is_set(input, at * 8 + j), here);
     }
     sum
 }

@@ -1,13 +1,15 @@
 -- Laws of `number_at` and `octets_of`, for every number of octets: reading gives back what was written, and writing what
 -- was read; and where in a list the octets stand.
 use Rattle.octets.specs.Prelude.{◌≡◌, refl, sym, ap, ap₂, ◌∙◌, List, [], ◌∷◌, ◌++◌, append-nil, ℕ, zero, suc, ◌+◌, ◌*◌, ◌/◌}
-use Rattle.octets.specs.Prelude.{◌%◌, ◌^◌, ◌≤◌, ◌<◌, add-zero, zero-add, add_assoc, pow-suc, mod-lt, arith, length, get_or}
-use Rattle.octets.specs.Prelude.{take, drop, set, replicate, get_or-drop, drop-cons, sets}
+use Rattle.octets.specs.Prelude.{◌-◌, ◌%◌, ◌^◌, ◌≤◌, ◌<◌, add-zero, zero-add, add_assoc, pow-suc, mod-lt, arith, length, get_or}
+use Rattle.octets.specs.Prelude.{take, drop, replicate, get_or-drop, drop-cons, sets}
 use native.Mathlib.Nat.{suc-add, one-mul, mul-add, mul_assoc, pow-succ'}
 use native.Mathlib.Nat.{div-one, div-div-eq-div-mul, div-lt_iff_lt-mul, mod-eq_of_lt, div-eq_of_lt, mod-add-div, pow-le-pow_right}
 use lib.Arith.{mod-mul, digits_div, digits_mod}
 use lib.Seq.{get_or-append-add}
-use Rattle.octets.proofs.Copies.{sets-append}
+use Rattle.octets.proofs.Copies.{part-sets}
+use borrow.Rule.Slice.PartMut.{put_mid}
+use Rattle.std.specs.Int.{byte_at, bytes_low_first}
 use Rattle.octets.specs.Numbers.{AreOctets, number_at, octets_of}
 
 pow_pos : (n : ℕ) → 0 < 256 ^ n
@@ -114,32 +116,23 @@ number-four xs i =
     let three : i + 2 + 1 ≡ i + 3 = omega arith in
     rw (number-suc 3 xs i, number-suc 2 xs (i + 1), two, number-suc 1 xs (i + 2), three, number-suc 0 xs (i + 3), number-zero) (omega arith)
 
-pub stored-four : (l : List ℕ) (i v : ℕ)
-    → set (set (set (set l i (v % 256)) (i + 1) (v / 256 % 256)) (i + 2) (v / 65536 % 256)) (i + 3) (v / 16777216 % 256) ≡ sets l i (octets_of 4 v)
-stored-four l i v =
-    let one : i + 1 ≡ suc i = omega arith in
-    let two : i + 2 ≡ suc (suc i) = omega arith in
-    let three : i + 3 ≡ suc (suc (suc i)) = omega arith in
-    rw (
-      one,
-      two,
-      three,
-      octets-suc 3 v,
-      octets-suc 2 (v / 256),
-      div-div-eq-div-mul v 256 256,
-      octets-suc 1 (v / 65536),
-      div-div-eq-div-mul v 65536 256,
-      octets-suc 0 (v / 16777216),
-      octets-zero,
-    ) refl
+-- octets by the library's words
+low-octet : (i v : ℕ) → v / 256 ^ i % 256 ≡ byte_at i v
+low-octet zero v = ap (λ (x : ℕ). x % 256) (div-one v)
+low-octet (suc i) v = refl
 
--- eight octets are four and four
-pub stored-eight : (l m : List ℕ) (i v : ℕ) → m ≡ sets l i (octets_of 4 (v % 256 ^ 4))
-    → sets m (i + 4) (octets_of 4 (v / 256 ^ 4)) ≡ sets l i (octets_of 8 v)
-stored-eight l m i v e =
-    let four = octets_of 4 v in
-    let place : i + length four ≡ i + 4 = ap (λ (n : ℕ). i + n) (length-octets 4 v) in
-    rw (e, octets-mod 4 v, octets-add 4 4 v, sets-append l four (octets_of 4 (v / 256 ^ 4)) i, place) refl
+pub octets-low-first : (k i v : ℕ) → octets_of k (v / 256 ^ i) ≡ bytes_low_first i k v
+octets-low-first zero i v = octets-zero (v / 256 ^ i)
+octets-low-first (suc k) i v =
+    let next : v / 256 ^ i / 256 ≡ v / 256 ^ suc i = rw pow-suc (div-div-eq-div-mul v (256 ^ i) 256) in
+    octets-suc k (v / 256 ^ i)
+    ∙ ap₂ (λ (x : ℕ) (xs : List ℕ). x ∷ xs) (low-octet i v) (ap (octets_of k) next ∙ octets-low-first k (suc i) v)
+
+-- a part of a list that was lent for n octets and came back with those of a number
+pub stored-octets : (n : ℕ) (l : List ℕ) (i v : ℕ) → i + n ≤ length l → put_mid i (i + n - i) l (bytes_low_first 0 n v) ≡ sets l i (octets_of n v)
+stored-octets n l i v h =
+    let same : bytes_low_first 0 n v ≡ octets_of n v = sym (ap (octets_of n) (sym (div-one v)) ∙ octets-low-first n 0 v) in
+    ap (put_mid i (i + n - i) l) same ∙ part-sets l (octets_of n v) i (i + n - i) (length-octets n v ∙ omega arith) (omega arith)
 
 -- a number below 256 is its lowest octet, and the others are 0
 zero-octets : (n : ℕ) → octets_of n 0 ≡ replicate n 0

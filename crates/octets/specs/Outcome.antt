@@ -1,10 +1,16 @@
 -- What a call answers, by document 01's numbers.
+use Rattle.std.specs.Prelude.{Result, Ok, Err}
 use Rattle.octets.specs.Prelude.{ℕ}
 
 -- a value, or the number of the refusal
 pub data Outcome (A : Type 0) : Type 0 where
   value : A → Outcome A
   refused : ℕ → Outcome A
+
+-- what a Result says, by the number that each error stands for
+abbrev pub outcome_of : {A E : Type 0} → (E → ℕ) → Result A E → Outcome A
+outcome_of number (Ok v) = value v
+outcome_of number (Err e) = refused (number e)
 
 -- where there is a value, what is made of it; else the same refusal
 abbrev pub and_then : {A B : Type 0} → Outcome A → (A → Outcome B) → Outcome B

@@ -5,43 +5,12 @@ ghost use Rattle.std.specs.Prelude.{◌≡◌, ◌+◌, ◌*◌, ◌≤◌, ◌+
 ghost use Rattle.octets.specs.Prelude.{length, take, drop, sets};
 ghost use Rattle.octets.specs.Numbers.{number_at, octets_of};
 
-// Octets of a word.
-const WORD: usize = 8;
-
-// Copies src over dst, which is as long: a word at a time as far as that goes, and the rest octet by octet. The compiler
-// cannot tell that the two lie apart, and would move short runs by single octets.
+// Copies src over dst, which is as long.
 pub fn copy(dst: &mut [u8], src: &[u8])
     requires { length src.now ≡ length dst.old }
     ensures { dst.new ≡ src.now }
 {
-    let done = copy_words(dst, src);
-    copy_rest(dst, src, done);
-}
-
-// Copies as many octets as whole words have, and answers how many.
-fn copy_words(dst: &mut [u8], src: &[u8]) -> usize
-    requires { length src.now ≡ length dst.old }
-    ensures { (dst.new ≡ take result src.now ++ drop result dst.old) × (result ≤ length src.now) }
-{
-    let mut i = 0;
-    while src.len() - i >= WORD {
-        write_u64(dst, i, read_u64(src, i));
-        i += WORD;
-    }
-    i
-}
-
-// Copies the octets from `from` on, of which those before are there already.
-fn copy_rest(dst: &mut [u8], src: &[u8], from: usize)
-    requires src_len { (length src.now ≡ length dst.old) × (from ≤ length src.now) }
-    requires dst_value { dst.old ≡ take from src.now ++ drop from dst.old }
-    ensures { dst.new ≡ src.now }
-{
-    let mut i = from;
-    while i < src.len() {
-        dst[i] = src[i];
-        i += 1;
-    }
+    dst.copy_from_slice(src);
 }
 
 // The number in the four octets from `at` on.
@@ -49,14 +18,14 @@ pub fn read_u32(octets: &[u8], at: usize) -> u32
     requires { at + 4 ≤ length octets.now }
     ensures { result ≡ number_at 4 octets.now at }
 {
-    joined(octets[at], octets[at + 1], octets[at + 2], octets[at + 3])
+    u32::from_le_bytes([octets[at], octets[at + 1], octets[at + 2], octets[at + 3]])
 }
 
 // The number with these octets, the lowest first.
 pub fn joined(a: u8, b: u8, c: u8, d: u8) -> u32
     ensures { result ≡ a + 256 * b + 65536 * c + 16777216 * d }
 {
-    a as u32 + 256 * (b as u32) + 65536 * (c as u32) + 16777216 * (d as u32)
+    u32::from_le_bytes([a, b, c, d])
 }
 
 // The number in the eight octets from `at` on.
@@ -72,10 +41,7 @@ pub fn write_u32(octets: &mut [u8], at: usize, v: u32)
     requires { at + 4 ≤ length octets.old }
     ensures { octets.new ≡ sets octets.old at (octets_of 4 v) }
 {
-    octets[at] = (v % 256) as u8;
-    octets[at + 1] = (v / 256 % 256) as u8;
-    octets[at + 2] = (v / 65536 % 256) as u8;
-    octets[at + 3] = (v / 16777216 % 256) as u8;
+    octets[at..at + 4].copy_from_slice(&v.to_le_bytes());
 }
 
 // Puts v into the eight octets from `at` on.
@@ -83,6 +49,5 @@ pub fn write_u64(octets: &mut [u8], at: usize, v: u64)
     requires { at + 8 ≤ length octets.old }
     ensures { octets.new ≡ sets octets.old at (octets_of 8 v) }
 {
-    write_u32(octets, at, (v % 4294967296) as u32);
-    write_u32(octets, at + 4, (v / 4294967296) as u32);
+    octets[at..at + 8].copy_from_slice(&v.to_le_bytes());
 }

@@ -1,10 +1,10 @@
 -- Octets of an area by their counts: a run that ends before the area's end is a part of the page, and any other is
 -- such a run and another from the area's start.
-use Rattle.octets.specs.Prelude.{◌≡◌, refl, sym, ap, ap₂, ◌∙◌, List, [], ◌∷◌, ◌++◌, append_assoc, ℕ, zero, suc, ◌+◌, ◌-◌, ◌%◌, ◌≤◌, add-zero}
+use Rattle.octets.specs.Prelude.{◌≡◌, refl, sym, ap, ap₂, ◌∙◌, List, [], ◌∷◌, ◌++◌, ℕ, zero, suc, ◌+◌, ◌-◌, ◌%◌, ◌≤◌, add-zero}
 use Rattle.octets.specs.Prelude.{zero-add, arith, length, get_or, set, take, drop, length-set, length-drop, length-append, take-append-drop, sets}
-use Rattle.octets.specs.Prelude.{sets-eq, length-sets, length-take-le, drop-cons, take_at, drop-drop}
+use Rattle.octets.specs.Prelude.{length-sets, length-take-le, drop-cons, take_at}
 use borrow.Rule.Slice.PartMut.{put_mid}
-use Rattle.octets.proofs.Copies.{sets-append, sets-all}
+use Rattle.octets.proofs.Copies.{sets-append, sets-all, part-sets}
 use Rattle.page.specs.Page.{area_size, offsets, octets_in, put}
 
 module _ (area : ℕ) (page : List ℕ) where
@@ -62,15 +62,6 @@ module _ (area : ℕ) (page : List ℕ) where
       ap (octets_in area page c) count
       ∙ octets-add c r (n - r)
       ∙ ap₂ (λ (xs ys : List ℕ). xs ++ ys) (octets-run c r (omega arith) l) second
-
--- a part of a list that was lent and came back with ys is a run of stores
-pub part-sets : (d ys : List ℕ) (a k : ℕ) → length ys ≡ k → a + k ≤ length d → put_mid a k d ys ≡ sets d a ys
-part-sets d ys a k e h =
-    sym
-    (sets-eq ys d a (rw e h)
-    ∙ append_assoc (take a d) ys (drop (a + length ys) d)
-    ∙ ap (λ (n : ℕ). take a d ++ (ys ++ drop (a + n) d)) e
-    ∙ ap (λ (xs : List ℕ). take a d ++ (ys ++ xs)) (sym (drop-drop k a d)))
 
 -- two parts that make up the whole list
 pub parts_whole : (d xs ys : List ℕ) (r n : ℕ) → length d ≡ n → r ≤ n → length xs ≡ r → length ys ≡ n - r

@@ -9,7 +9,7 @@ pub fn unread_here(page: &[u8], at: usize, cons: u32) -> u32
     requires { at + 4 ≤ length page.now }
     ensures { result ≡ less (count_in page.now at) cons }
 {
-    difference(octets::read_u32(page, at), cons)
+    octets::read_u32(page, at).wrapping_sub(cons)
 }
 
 // How many octets written here are unread at the other end: the own count less the reader's, which stands at `at`.
@@ -17,14 +17,7 @@ pub fn unread_by_other(page: &[u8], at: usize, prod: u32) -> u32
     requires { at + 4 ≤ length page.now }
     ensures { result ≡ less prod (count_in page.now at) }
 {
-    difference(prod, octets::read_u32(page, at))
-}
-
-// One count less another.
-fn difference(a: u32, b: u32) -> u32
-    ensures { result ≡ less a b }
-{
-    std::num::wrapping_sub_u32(a, b)
+    prod.wrapping_sub(octets::read_u32(page, at))
 }
 
 // Writes the count of octets read to its place, and that of octets written to its own.

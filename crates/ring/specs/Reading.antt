@@ -3,6 +3,7 @@ use Rattle.std.specs.Prelude.{◌≡◌, ◌∷◌, ◌+◌, ◌-◌, ◌^◌, �
 use Rattle.octets.specs.Prelude.{List, [], Bool, false, cond, ℕ, length, set, replicate, leb, ltb}
 use Rattle.messages.specs.Wire.{header_size, max_payload, size_in}
 use Rattle.page.specs.Page.{advanced, octets_in}
+use Rattle.ring.specs.declared.receiving.Receiving.{Receiving}
 
 -- what has been read of a message: its header, the first octets of its payload, and how many octets in all
 pub record Message : Type 0 where
@@ -19,6 +20,10 @@ pub record Incoming : Type 0 where
 abbrev pub incoming_of : List ℕ → List ℕ → ℕ → ℕ → Incoming
 incoming_of header payload taken cons =
     record { message = record { header = header; payload = payload; taken = taken }; cons = cons }
+
+-- the reading side that a struct holds, with header and payload of the message, which stand elsewhere
+abbrev pub incoming_in : Receiving → List ℕ → List ℕ → Incoming
+incoming_in s header payload = incoming_of header payload s.taken s.cons
 
 -- the length of the message with this header, and whether all its octets are there. A part of a header cannot meet this
 abbrev pub message_length : List ℕ → ℕ

@@ -3,6 +3,7 @@ use Rattle.std.specs.Prelude.{◌≡◌, ◌+◌, ◌-◌, ◌^◌, ◌≤◌, �
 use Rattle.octets.specs.Prelude.{List, ℕ, min, length, take, drop, replicate}
 use Rattle.messages.specs.Requests.{max_ack}
 use Rattle.page.specs.Page.{advanced}
+use Rattle.ring.specs.declared.sending.Sending.{Sending}
 
 -- a writing side: a message of `length` octets, of which `written` are on the page, and the count of octets written
 pub record Outgoing : Type 0 where
@@ -14,6 +15,10 @@ pub record Outgoing : Type 0 where
 -- the writing side by its parts
 abbrev pub outgoing_of : List ℕ → ℕ → ℕ → ℕ → Outgoing
 outgoing_of octets size written prod = record { octets = octets; length = size; written = written; prod = prod }
+
+-- the writing side that a struct holds, with the octets of the message, which stand elsewhere
+abbrev pub outgoing_in : Sending → List ℕ → Outgoing
+outgoing_in s octets = outgoing_of octets s.length s.written s.prod
 
 -- how many octets of the message are still owed, and how many of them fit into `room` octets
 abbrev pub owed : Outgoing → ℕ

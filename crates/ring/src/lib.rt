@@ -5,5 +5,5 @@
 mod receiving;
 mod sending;
 
-pub use receiving::{is_whole, receive};
-pub use sending::send;
+pub use receiving::Receiving;
+pub use sending::Sending;

@@ -1,28 +1,45 @@
-// A message written into an area, as far as it fits.
-ghost use Rattle.std.specs.Prelude.{◌≡◌, ◌+◌, ◌≤◌};
-ghost use Rattle.octets.specs.Prelude.{length};
+// The writing side of either end: a message written into an area, as far as it fits.
+ghost use Rattle.std.specs.Prelude.{◌≡◌, ◌+◌, ◌^◌, ◌≤◌, ◌<◌};
+ghost use Rattle.octets.specs.Prelude.{length, ltb};
 ghost use Rattle.page.specs.Page.{area_size, put};
-ghost use Rattle.ring.specs.Writing.{outgoing_of, fitting, sent_octets};
+ghost use Rattle.ring.specs.Writing.{sent, sent_octets, fitting, outgoing_in};
 
-use areas::least;
+// How many octets the message has and how many of them are written, and the own count of octets written, which is a 32-bit
+// count as on the page. C reads the fields, so they are its numbers; the octets stand elsewhere in its struct.
+#[repr(C)]
+#[derive(Clone, Copy)]
+pub struct Sending {
+    pub length: u64,
+    pub written: u64,
+    pub prod: u64,
+}
 
-// Writes as many octets of the message of `size` octets, of which `written` are there, as fit into `room` octets of the
-// area at `area`, from the count `prod` on, and answers how many these are.
-pub fn send(
-    page: &mut [u8],
-    area: usize,
-    octets: &[u8],
-    size: usize,
-    written: usize,
-    prod: u32,
-    room: u32,
-) -> u32
-    requires area_size_in_bounds { (area + area_size ≤ length page.old) × (room ≤ area_size) }
-    requires written_le_size { (written ≤ size) × (size ≤ length octets.now) }
-    ensures { let o = outgoing_of octets.now size written prod in
-        (result ≡ fitting o room) × (page.new ≡ put area page.old prod (sent_octets o result)) }
-{
-    let n = least(room as u64, (size - written) as u64) as usize;
-    areas::write_area(page, area, prod, &octets[written..written + n]);
-    n as u32
+impl Sending {
+    // Whether octets of the message are still to be written.
+    pub fn owes(&self) -> bool
+        ensures { result ≡ ltb self.now.written self.now.length }
+    {
+        self.written < self.length
+    }
+
+    // Writes as many octets of the message as fit into `room` octets of the area at `area`.
+    pub fn send(&mut self, page: &mut [u8], area: usize, octets: &[u8], room: u32)
+        requires area_in_page { (area + area_size ≤ length page.old) × (room ≤ area_size) }
+        requires written_in_message { (self.old.written ≤ self.old.length) × (self.old.length ≤ length octets.now)
+            × (self.old.prod < 2 ^ 32) }
+        ensures { let o = outgoing_in self.old octets.now in
+            (outgoing_in self.new octets.now ≡ sent o (fitting o room))
+            × (page.new ≡ put area page.old o.prod (sent_octets o (fitting o room))) }
+    {
+        let n = (self.length - self.written).min(room as u64);
+        let from = self.written as usize;
+        areas::write_area(
+            page,
+            area,
+            self.prod as u32,
+            &octets[from..from + n as usize],
+        );
+        self.written += n;
+        self.prod = (self.prod as u32).wrapping_add(n as u32) as u64;
+    }
 }

@@ -11,10 +11,11 @@ use Rattle.toeplitz.specs.Step.{stepped, window_after}
 use Rattle.toeplitz.specs.Xor.{xor_octets}
 use Rattle.toeplitz.specs.TwoWay.{last_type, input_size, IsInput, reverse_of, single_bit, EqualHashes, tells_apart}
 use Rattle.toeplitz.specs.TwoWay.{Verdict, agree, differ_at, verdict, two_way_outcome, two_way_outcome_of, RepeatsEveryTwo}
-use Rattle.toeplitz.specs.declared.HashAnswer.{HashAnswer}
-use Rattle.toeplitz.specs.declared.HashAnswer.TheVariants.{Hash, KeyLength, InputLength}
-use Rattle.toeplitz.specs.declared.TwoWayAnswer.{TwoWayAnswer}
-use Rattle.toeplitz.specs.declared.TwoWayAnswer.TheVariants.{Yes, No, KeyLength as KeyLength₂, HashType}
+use Rattle.toeplitz.specs.declared.HashRefusal.{HashRefusal}
+use Rattle.toeplitz.specs.declared.HashRefusal.TheVariants.{KeyLength, InputLength}
+use Rattle.toeplitz.specs.declared.TwoWayRefusal.{TwoWayRefusal}
+use Rattle.toeplitz.specs.declared.TwoWayRefusal.TheVariants.{KeyLength as KeyLength₂, HashType}
+use Rattle.std.specs.Prelude.{Option, None, Some, Result, Ok, Err}
 use Rattle.toeplitz.proofs.Linear.{length-xor, get_d-xor, linear-in-input, linear-in-key}
 use Rattle.toeplitz.proofs.Lowest.{differ-exactly}
 use Rattle.toeplitz.proofs.OneBit.{one-is-input}
@@ -47,17 +48,17 @@ module _ (key input : List ℕ) where
   hash-or-published other e h = ap (value_or other) ((hash-is-published (published_hash key input)).1 (e, h, refl))
 
 -- the reading of an answer keeps answers apart, so the contract leaves no choice
-hash-answer : Outcome ℕ → HashAnswer
-hash-answer (value h) = Hash h
-hash-answer (refused n) = cond (eqb n key_length_wrong) KeyLength InputLength
+hash-answer : Outcome ℕ → Result ℕ HashRefusal
+hash-answer (value h) = Ok h
+hash-answer (refused n) = cond (eqb n key_length_wrong) (Err KeyLength) (Err InputLength)
 
-hash-answer-back : (r : HashAnswer) → hash-answer (hash_outcome_of r) ≡ r
+hash-answer-back : (r : Result ℕ HashRefusal) → hash-answer (hash_outcome_of r) ≡ r
 unfolding hash-answer
-hash-answer-back (Hash h) = refl
-hash-answer-back KeyLength = refl
-hash-answer-back InputLength = refl
+hash-answer-back (Ok h) = refl
+hash-answer-back (Err KeyLength) = refl
+hash-answer-back (Err InputLength) = refl
 
-pub hash-answer-determined : (r s : HashAnswer) → hash_outcome_of r ≡ hash_outcome_of s → r ≡ s
+pub hash-answer-determined : (r s : Result ℕ HashRefusal) → hash_outcome_of r ≡ hash_outcome_of s → r ≡ s
 hash-answer-determined r s e = sym (hash-answer-back r) ∙ ap hash-answer e ∙ hash-answer-back s
 
 -- linear in the input: the answer for the XOR of two inputs of one length is the XOR of the answers
@@ -107,19 +108,19 @@ hash-by-steps key input o =
 -- ---- the two-way call
 
 -- here too the contract leaves no choice
-two-way-answer : Outcome Verdict → TwoWayAnswer
-two-way-answer (value agree) = Yes
-two-way-answer (value (differ_at b)) = No b
-two-way-answer (refused n) = cond (eqb n key_length_wrong) KeyLength₂ HashType
+two-way-answer : Outcome Verdict → Result (Option ℕ) TwoWayRefusal
+two-way-answer (value agree) = Ok None
+two-way-answer (value (differ_at b)) = Ok (Some b)
+two-way-answer (refused n) = cond (eqb n key_length_wrong) (Err KeyLength₂) (Err HashType)
 
-two-way-answer-back : (r : TwoWayAnswer) → two-way-answer (two_way_outcome_of r) ≡ r
+two-way-answer-back : (r : Result (Option ℕ) TwoWayRefusal) → two-way-answer (two_way_outcome_of r) ≡ r
 unfolding two-way-answer
-two-way-answer-back Yes = refl
-two-way-answer-back (No b) = refl
-two-way-answer-back KeyLength₂ = refl
-two-way-answer-back HashType = refl
+two-way-answer-back (Ok None) = refl
+two-way-answer-back (Ok (Some b)) = refl
+two-way-answer-back (Err KeyLength₂) = refl
+two-way-answer-back (Err HashType) = refl
 
-pub two-way-answer-determined : (r s : TwoWayAnswer) → two_way_outcome_of r ≡ two_way_outcome_of s → r ≡ s
+pub two-way-answer-determined : (r s : Result (Option ℕ) TwoWayRefusal) → two_way_outcome_of r ≡ two_way_outcome_of s → r ≡ s
 two-way-answer-determined r s e = sym (two-way-answer-back r) ∙ ap two-way-answer e ∙ two-way-answer-back s
 
 -- the inputs of the four types have 8, 12, 32 and 36 octets

@@ -1,10 +1,10 @@
 -- The published hash of a key and an input, and what a hash call answers.
-use Rattle.std.specs.Prelude.{◌+◌, ◌-◌, ◌*◌, ◌/◌, ◌%◌, ◌^◌}
+use Rattle.std.specs.Prelude.{Result, ◌+◌, ◌-◌, ◌*◌, ◌/◌, ◌%◌, ◌^◌}
 use Rattle.octets.specs.Prelude.{List, cond, ℕ, zero, suc, length, get_or, eqb, leb, bit_xor}
-use Rattle.octets.specs.Outcome.{Outcome, value, refused}
+use Rattle.octets.specs.Outcome.{Outcome, value, refused, outcome_of}
 use Rattle.toeplitz.specs.Refusals.{input_too_long, key_length_wrong}
-use Rattle.toeplitz.specs.declared.HashAnswer.{HashAnswer}
-use Rattle.toeplitz.specs.declared.HashAnswer.TheVariants.{Hash, KeyLength, InputLength}
+use Rattle.toeplitz.specs.declared.HashRefusal.{HashRefusal}
+use Rattle.toeplitz.specs.declared.HashRefusal.TheVariants.{KeyLength, InputLength}
 
 -- octets of a key, and the most octets of a hash input
 abbrev pub key_length : ℕ
@@ -51,8 +51,10 @@ hash_outcome key input =
     (cond (leb (length input) max_input) (value (published_hash key input)) (refused input_too_long))
     (refused key_length_wrong)
 
--- the number and value that each case of the enum stands for
-abbrev pub hash_outcome_of : HashAnswer → Outcome ℕ
-hash_outcome_of (Hash h) = value h
-hash_outcome_of KeyLength = refused key_length_wrong
-hash_outcome_of InputLength = refused input_too_long
+-- the number that each refusal stands for, and what an answer says
+abbrev pub hash_refusal_number : HashRefusal → ℕ
+hash_refusal_number KeyLength = key_length_wrong
+hash_refusal_number InputLength = input_too_long
+
+abbrev pub hash_outcome_of : Result ℕ HashRefusal → Outcome ℕ
+hash_outcome_of r = outcome_of hash_refusal_number r

@@ -1,13 +1,13 @@
 -- The inputs of each hash type, the reverse of an input, and what the two-way question answers.
-use Rattle.std.specs.Prelude.{◌≡◌, ◌++◌, ◌+◌, ◌-◌, ◌*◌, ◌/◌, ◌%◌, ◌^◌, ◌<◌}
+use Rattle.std.specs.Prelude.{Option, None, Some, Result, Ok, Err, ◌≡◌, ◌++◌, ◌+◌, ◌-◌, ◌*◌, ◌/◌, ◌%◌, ◌^◌, ◌<◌}
 use Rattle.octets.specs.Prelude.{List, Bool, true, false, not, cond, ℕ, zero, suc}
 use Rattle.octets.specs.Prelude.{length, get_or, take, drop, set, replicate, eqb, leb}
 use Rattle.octets.specs.Numbers.{AreOctets}
 use Rattle.octets.specs.Outcome.{Outcome, value, refused}
 use Rattle.toeplitz.specs.Refusals.{key_length_wrong, type_unknown}
 use Rattle.toeplitz.specs.Hash.{key_length, published_hash}
-use Rattle.toeplitz.specs.declared.TwoWayAnswer.{TwoWayAnswer}
-use Rattle.toeplitz.specs.declared.TwoWayAnswer.TheVariants.{Yes, No, KeyLength, HashType}
+use Rattle.toeplitz.specs.declared.TwoWayRefusal.{TwoWayRefusal}
+use Rattle.toeplitz.specs.declared.TwoWayRefusal.TheVariants.{KeyLength, HashType}
 
 -- the hash types: 0 IPv4, 1 IPv4 TCP, 2 IPv6, 3 IPv6 TCP
 abbrev pub last_type : ℕ
@@ -88,12 +88,18 @@ two_way_outcome key t =
     cond (eqb (length key) key_length) (cond (leb t last_type) (value (verdict key t)) (refused type_unknown))
     (refused key_length_wrong)
 
--- the number and value that each case of the enum stands for
-abbrev pub two_way_outcome_of : TwoWayAnswer → Outcome Verdict
-two_way_outcome_of Yes = value agree
-two_way_outcome_of (No b) = value (differ_at b)
-two_way_outcome_of KeyLength = refused key_length_wrong
-two_way_outcome_of HashType = refused type_unknown
+-- the number that each refusal stands for, and what an answer says: a bit that tells, or none
+abbrev pub two_way_refusal_number : TwoWayRefusal → ℕ
+two_way_refusal_number KeyLength = key_length_wrong
+two_way_refusal_number HashType = type_unknown
+
+abbrev pub verdict_of : Option ℕ → Verdict
+verdict_of None = agree
+verdict_of (Some b) = differ_at b
+
+abbrev pub two_way_outcome_of : Result (Option ℕ) TwoWayRefusal → Outcome Verdict
+two_way_outcome_of (Ok bit) = value (verdict_of bit)
+two_way_outcome_of (Err e) = refused (two_way_refusal_number e)
 
 -- a key that repeats every two octets
 abbrev pub RepeatsEveryTwo : List ℕ → Type 0

@@ -22,7 +22,7 @@ pub fn next_window(key: &[u8], window: u32, i: usize) -> u32
     requires { (length key.now ≡ key_length) × (i < 288) × (window ≡ window_at key.now i) }
     ensures { result ≡ window_at key.now (i + 1) }
 {
-    (window % TOP_BIT * 2) | (wide(key[i / 8 + 4]) >> (7 - i % 8))
+    (window % TOP_BIT * 2) | (u32::from(key[i / 8 + 4]) >> (7 - i % 8))
 }
 
 // The window at the top bit of octet `a`.
@@ -38,11 +38,5 @@ fn four_octets(key: &[u8], a: usize) -> u32
     requires { a + 4 ≤ length key.now }
     ensures { result ≡ four_octets key.now a }
 {
-    ((wide(key[a]) * 256 + wide(key[a + 1])) * 256 + wide(key[a + 2])) * 256 + wide(key[a + 3])
-}
-
-fn wide(x: u8) -> u32
-    ensures { (result ≡ x) × (result < 256) }
-{
-    x as u32
+    u32::from_be_bytes([key[a], key[a + 1], key[a + 2], key[a + 3]])
 }

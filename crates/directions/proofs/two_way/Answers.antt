@@ -14,16 +14,16 @@ pub returns : goal.returns
 returns c =
     let address = c.address_size-address.ensures.0 in
     answered _ _ _ (omega arith) (omega arith)
-    (nowhere _ _ (rw address at c.in_default.ensures) (rw (address, c.port_size-port.ensures.0) at c.in_default-in_ports.ensures))
+    (nowhere _ _ (rw address at c.in_default.ensures) (rw (address, c.port_size-port.ensures.0) at c.in_default-first_difference.ensures))
 
-pub returns-in-At : goal.returns-in-At
-returns-in-At c =
+pub returns-in-Some : goal.returns-in-Some
+returns-in-Some c =
     answered _ _ _ (omega arith) (omega arith)
-    (in-addresses _ _ _ (rw c.address_size-address.ensures.0 at c.in-At.ensures))
+    (in-addresses _ _ _ (rw c.address_size-address.ensures.0 at c.in-Some.ensures))
 
-pub returns-in-At-in_ports : goal.returns-in-At-in_ports
-returns-in-At-in_ports c =
+pub returns-in-Some-first_difference : goal.returns-in-Some-first_difference
+returns-in-Some-first_difference c =
     let address = c.address_size-address.ensures.0 in
-    ap (λ (x : ℕ). value (differ_at (x * 16 + c.in-At-in_ports.b))) address
+    ap (λ (x : ℕ). value (differ_at (x * 16 + c.in-Some-first_difference.bit))) address
     ∙ answered _ _ _ (omega arith) (omega arith)
-    (in-ports _ _ _ (rw address at c.in_default.ensures) (rw (address, c.port_size-port.ensures.0) at c.in-At-in_ports.ensures))
+    (in-ports _ _ _ (rw address at c.in_default.ensures) (rw (address, c.port_size-port.ensures.0) at c.in-Some-first_difference.ensures))

@@ -1,12 +1,9 @@
 -- The loop of `hashing::add_octet`: the window at bit j of the octet, and the bits below j are added.
-use Rattle.octets.specs.Prelude.{◌≡◌, ◌≤◌, ◌+◌, ◌*◌, ◌-◌}
+use Rattle.octets.specs.Prelude.{◌≡◌, ◌+◌, ◌*◌}
 use Rattle.toeplitz.specs.Hash.{window_at}
 use Rattle.toeplitz.specs.Inner.{hash_below}
 use Rattle.hashing.proofs.add_octet.Given as goal
 
 abbrev pub invariant-loop-j : goal.invariant-loop-j
 invariant-loop-j l =
-    (l.j ≤ 8) × (l.window ≡ window_at l.key (l.at * 8 + l.j)) × (l.sum ≡ hash_below l.key l.input (l.at * 8 + l.j))
-
-abbrev pub decreases-loop-j : goal.decreases-loop-j
-decreases-loop-j l = 8 - l.j
+    (l.window ≡ window_at l.key (l.at * 8 + l.j)) × (l.sum ≡ hash_below l.key l.input (l.at * 8 + l.j))

@@ -5,10 +5,10 @@ use Rattle.hashing.proofs.hash_octets.Goals as goal
 
 pub loop-at-init : goal.loop-at-init
 unfolding xor_below
-loop-at-init c = (refl, omega arith)
+loop-at-init c = refl
 
 pub returns : goal.returns
 unfolding published_hash
 returns c =
     let e : c.loop-at.at ≡ length c.args.input.now = omega arith in
-    rw e at c.loop-at.invariant.0
+    rw e at c.loop-at.invariant

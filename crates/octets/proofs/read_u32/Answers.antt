@@ -1,7 +1,7 @@
--- `octets::read_u32` meets its contract: the four octets joined are the number by its definition.
-use Rattle.octets.specs.Prelude.{sym, ◌∙◌}
+-- `octets::read_u32` meets its contract: the library's number of four octets is the number by its definition.
+use Rattle.octets.specs.Prelude.{arith}
 use Rattle.octets.proofs.Numbers.{number-four}
 use Rattle.octets.proofs.read_u32.Goals as goal
 
 pub returns : goal.returns
-returns c = c.joined.ensures ∙ sym (number-four _ _)
+returns c = rw (number-four c.args.octets.now c.args.at) (omega (arith, c.from_le_bytes.ensures))

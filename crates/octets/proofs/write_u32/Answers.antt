@@ -1,16 +1,11 @@
--- `octets::write_u32` meets its contract: the four stores are those of `sets`.
-use Rattle.octets.specs.Prelude.{arith, length-set}
-use Rattle.octets.proofs.Numbers.{stored-four}
+-- `octets::write_u32` meets its contract: the library's octets of a number are those by its definition.
+use Rattle.octets.specs.Prelude.{◌∙◌, ap, List, ℕ, ◌+◌, ◌-◌}
+use borrow.Rule.Slice.PartMut.{put_mid}
+use Rattle.octets.proofs.Numbers.{stored-octets}
 use Rattle.octets.proofs.write_u32.Goals as goal
 
-pub bounds-octets-at-2 : goal.bounds-octets-at-2
-bounds-octets-at-2 c = simp length-set (omega arith)
-
-pub bounds-octets-at-3 : goal.bounds-octets-at-3
-bounds-octets-at-3 c = simp length-set (omega arith)
-
-pub bounds-octets-at-4 : goal.bounds-octets-at-4
-bounds-octets-at-4 c = simp length-set (omega arith)
-
 pub returns : goal.returns
-returns c = stored-four _ _ _
+returns c =
+    let a = c.args in
+    ap (λ (xs : List ℕ). put_mid a.at (a.at + 4 - a.at) a.octets.now xs) (c.copy_from_slice.ensures.after ∙ c.to_le_bytes.ensures)
+    ∙ stored-octets 4 a.octets.now a.at a.v c.requires

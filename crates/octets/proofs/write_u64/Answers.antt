@@ -1,8 +1,11 @@
--- `octets::write_u64` meets its contract: eight octets are four and four.
-use Rattle.octets.specs.Prelude.{◌∙◌}
-use Rattle.octets.proofs.Numbers.{stored-eight}
+-- `octets::write_u64` meets its contract: the library's octets of a number are those by its definition.
+use Rattle.octets.specs.Prelude.{◌∙◌, ap, List, ℕ, ◌+◌, ◌-◌}
+use borrow.Rule.Slice.PartMut.{put_mid}
+use Rattle.octets.proofs.Numbers.{stored-octets}
 use Rattle.octets.proofs.write_u64.Goals as goal
 
 pub returns : goal.returns
 returns c =
-    c.write_u32-2.ensures ∙ stored-eight _ _ _ _ c.write_u32.ensures
+    let a = c.args in
+    ap (λ (xs : List ℕ). put_mid a.at (a.at + 8 - a.at) a.octets.now xs) (c.copy_from_slice.ensures.after ∙ c.to_le_bytes.ensures)
+    ∙ stored-octets 8 a.octets.now a.at a.v c.requires

@@ -11,5 +11,5 @@ returns-then-taken-ge-HEADER_OCTETS-clause-header_after c =
 pub returns-clause-header_after : goal.returns-clause-header_after
 returns-clause-header_after c =
     let a = c.args in
-    let k = c.least-k.result in
+    let k = c.min-k.result in
     part-read a.area a.page.now a.header.now _ a.count a.taken k k c.read_area.ensures (omega arith) (omega arith)

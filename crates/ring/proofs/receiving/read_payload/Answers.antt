@@ -13,11 +13,11 @@ returns-then-taken-lt-HEADER_OCTETS-clause-payload_after c =
 pub returns-then-start-room-clause-payload_after : goal.returns-then-start-room-clause-payload_after
 returns-then-start-room-clause-payload_after c =
     let a = c.args in
-    part-read a.area a.page.now a.payload.now _ a.count (a.taken - header_size) c.least-kept.result c.least-k.result c.read_area.ensures
-    (omega arith) c.least-kept.ensures
+    part-read a.area a.page.now a.payload.now _ a.count (a.taken - header_size) c.min-kept.result c.min-k.result c.read_area.ensures
+    (omega arith) c.min-kept.ensures
 
 pub returns-else-start-room-clause-payload_after : goal.returns-else-start-room-clause-payload_after
 returns-else-start-room-clause-payload_after c =
     let a = c.args in
-    let read = octets_in a.area a.page.now a.count c.least-k.result in
+    let read = octets_in a.area a.page.now a.count c.min-k.result in
     sym (sets-out a.payload.now read (a.taken - header_size) (omega arith))
