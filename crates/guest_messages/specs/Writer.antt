@@ -1,8 +1,8 @@
 -- The guest's message writer: the four requests, and what it answers and leaves in the output buffer.
-use Rattle.std.specs.Prelude.{◌∷◌, ◌++◌, Result, Ok, Err}
+use Rattle.std.specs.Prelude.{◌∷◌, ◌++◌, Result}
 use Rattle.octets.specs.Prelude.{List, [], cond, ℕ, length, drop, eqb, leb}
 use Rattle.octets.specs.Numbers.{octets_of}
-use Rattle.octets.specs.Outcome.{Outcome, value, refused}
+use Rattle.octets.specs.Outcome.{Outcome, value, refused, outcome_of}
 use Rattle.toeplitz.specs.Hash.{key_length}
 use Rattle.toeplitz.specs.Refusals.{key_length_wrong}
 use Rattle.messages.specs.Wire.{field_size, message, get_flags_type, set_flags_type, set_key_type, set_mapping_type, all_flags}
@@ -44,8 +44,7 @@ written (refused k) buffer = record { answer = refused k; buffer = buffer }
 
 -- the number and value that an answer of the writer stands for
 abbrev pub written_outcome_of : Result ℕ WriteRefusal → Outcome ℕ
-written_outcome_of (Ok n) = value n
-written_outcome_of (Err refusal) = refused (write_refusal_number refusal)
+written_outcome_of r = outcome_of write_refusal_number r
 
 abbrev pub after : Result ℕ WriteRefusal → List ℕ → After
 after r buffer = record { answer = written_outcome_of r; buffer = buffer }

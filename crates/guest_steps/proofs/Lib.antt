@@ -1,3 +1,1 @@
--- What the stages of a call did, and how it is stored.
-pub mod Stored
-pub mod Finds
+-- no lemma yet
