@@ -1,8 +1,10 @@
 -- What a call of the guest's end tells by its number, once its answer is known.
+use Rattle.std.specs.Prelude.{Result}
 use Rattle.octets.specs.Prelude.{◌≡◌, ap, ◌∙◌, List, ℕ}
 use Rattle.guest_steps.specs.Guest.{GuestState, told_number, told_of}
 use Rattle.guest_steps.specs.Calls.{After, left, left_by}
-use Rattle.guest_steps.specs.declared.GuestAnswer.{GuestAnswer}
+use Rattle.guest_steps.specs.declared.Progress.{Progress}
+use Rattle.guest_steps.specs.declared.Refusal.{Refusal}
 use Rattle.guest_numbers.specs.Answers.{Leaves}
 
 -- a call that answers by number
@@ -14,7 +16,7 @@ tells-number a r g octets e =
       octets = ap (λ (x : After). x.page) e;
     }
 
-pub tells : (a : After) (answer : GuestAnswer) (r : ℕ) (g : GuestState) (octets : List ℕ) → left answer g octets ≡ a
+pub tells : (a : After) (answer : Result Progress Refusal) (r : ℕ) (g : GuestState) (octets : List ℕ) → left answer g octets ≡ a
     → r ≡ told_number (told_of answer) → Leaves a r g octets
 tells a answer r g octets e n =
     record {

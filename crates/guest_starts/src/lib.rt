@@ -1,7 +1,7 @@
 // The stages of a start: what it finds, the request put into its place, and the request begun.
 #![tactic(auto)]
 
-ghost use Rattle.std.specs.Prelude.{◌≡◌, ◌^◌, ◌≤◌, ◌<◌};
+ghost use Rattle.std.specs.Prelude.{◌≡◌, ◌^◌, ◌≤◌, ◌<◌, IfOk};
 ghost use Rattle.octets.specs.Prelude.{length};
 ghost use Rattle.page.specs.Page.{page_size, area_size};
 ghost use Rattle.guest_messages.specs.Writer.{after, written};
@@ -16,7 +16,8 @@ use guest_steps::{Ask, Guest, IDLE, OUTSTANDING, Progress, Refusal};
 #[tactic(auto, unfolding(guest_steps::specs::Calls::readied))]
 pub fn ready(guest: &Guest, page: &[u8]) -> Result<u32, Refusal>
     requires { (guest.now.outgoing.prod < 2 ^ 32) × (guest.now.incoming.cons < 2 ^ 32) }
-    ensures { let g = state_of guest.now in readiness_of result ≡ readied (found g page.now) g }
+    ensures value { let g = state_of guest.now in readiness_of result ≡ readied (found g page.now) g }
+    ensures within { IfOk result (λ room. (length page.now ≡ page_size) × (room ≤ area_size)) }
 {
     let counts = guest.find(page)?;
     if guest.phase != IDLE {

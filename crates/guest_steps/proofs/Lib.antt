@@ -1,1 +1,2 @@
--- no lemma yet
+-- What a call finds.
+pub mod Finds

@@ -1,5 +1,7 @@
 // What a call of the guest's end finds on the page.
-ghost use Rattle.std.specs.Prelude.{◌≡◌, ◌^◌, ◌<◌};
+ghost use Rattle.std.specs.Prelude.{◌≡◌, ◌^◌, ◌≤◌, ◌<◌, IfOk};
+ghost use Rattle.octets.specs.Prelude.{length};
+ghost use Rattle.page.specs.Page.{page_size, area_size};
 ghost use Rattle.guest_steps.specs.Guest.{state_of};
 ghost use Rattle.guest_steps.specs.Calls.{found};
 ghost use Rattle.guest_steps.specs.Inner.{finding_of};
@@ -13,7 +15,8 @@ impl Guest {
     #[tactic(auto, unfolding(crate::specs::Calls::found))]
     pub fn find(&self, page: &[u8]) -> Result<Counts, Refusal>
         requires { (self.now.outgoing.prod < 2 ^ 32) × (self.now.incoming.cons < 2 ^ 32) }
-        ensures { finding_of result ≡ found (state_of self.now) page.now }
+        ensures value { finding_of result ≡ found (state_of self.now) page.now }
+        ensures within { IfOk result (λ counts. (length page.now ≡ page_size) × (counts.room ≤ area_size) × (counts.unread ≤ area_size)) }
     {
         if page.len() != page::PAGE {
             return Err(Refusal::PageLength);
