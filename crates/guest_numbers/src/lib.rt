@@ -13,13 +13,8 @@ pub fn tell_answer(answer: Result<Progress, Refusal>, status: &mut u32, flags: &
     ensures status_after { status.new ≡ status_of_told (told_of answer) status.old }
     ensures flags_after { flags.new ≡ flags_of_told (told_of answer) flags.old }
 {
-    match answer {
-        Ok(progress) => {
-            if let Progress::Acked(ack) = progress {
-                by_number::tell_ack(ack, status, flags);
-            }
-            progress.into()
-        }
-        Err(refusal) => refusal.into(),
+    if let Ok(Progress::Acked(ack)) = answer {
+        by_number::tell_ack(ack, status, flags);
     }
+    answer.map_or_else(u32::from, u32::from)
 }
