@@ -1,2 +1,2 @@
--- What is seen of an ack.
+-- The octets of an ack.
 pub mod Sights

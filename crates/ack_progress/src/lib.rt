@@ -3,53 +3,51 @@
 
 ghost use Rattle.std.specs.Prelude.{◌≡◌, ◌++◌, ◌≤◌};
 ghost use Rattle.octets.specs.Prelude.{take};
-ghost use Rattle.guest_messages.specs.Reader.{read_ack};
-ghost use Rattle.guest_steps.specs.Guest.{max_ack_payload};
-ghost use Rattle.guest_steps.specs.Calls.{judged, seen};
+ghost use Rattle.messages.specs.Wire.{type_in};
+ghost use Rattle.guest_messages.specs.Reader.{read_ack, ack_outcome_of};
+ghost use Rattle.guest_steps.specs.Guest.{max_ack_payload, state_of, incoming};
+ghost use Rattle.guest_steps.specs.Calls.{seen};
 ghost use Rattle.guest_steps.specs.Inner.{sight_of};
 
-use guest_messages::AckAnswer;
-use guest_steps::{MAX_ACK_PAYLOAD, Sight};
-use messages::{FIELD, HEADER, MAX_ACK};
+use guest_messages::{AckRead, NotAnAck};
+use guest_steps::Guest;
+use messages::{FIELD, HEADER, MAX_ACK, SIZE_AT};
 
 // Octets of a header, as the octets taken of a message are counted, and the two sizes that an ack can have.
 const HEADER_OCTETS: u64 = HEADER as u64;
 
-const STATUS_ALONE: u32 = FIELD as u32;
+const STATUS_ALONE: usize = FIELD;
 
-const WITH_FLAGS: u32 = STATUS_ALONE + STATUS_ALONE;
+const WITH_FLAGS: usize = FIELD + FIELD;
 
 // Looks at the ack read so far: a size that no ack has is refused at the header, and the reader judges the rest.
-pub fn look(kind: u32, header: &[u8; HEADER], payload: &[u8; MAX_ACK_PAYLOAD], taken: u64) -> Sight
-    ensures { sight_of result ≡ seen kind (record { header = header.now; payload = payload.now; taken = taken }) }
+#[tactic(auto, unfolding(guest_steps::specs::Calls::seen))]
+pub fn look(guest: &Guest) -> Result<Option<AckRead>, NotAnAck>
+    ensures { let g = state_of guest.now in sight_of result ≡ seen (type_in g.request) (incoming g).message }
 {
-    if taken < HEADER_OCTETS {
-        return Sight::Partly;
+    if guest.incoming.taken < HEADER_OCTETS {
+        return Ok(None);
     }
-    let size = octets::read_u32(header, messages::SIZE_AT);
-    if size != STATUS_ALONE {
-        if size != WITH_FLAGS {
-            return Sight::Refused;
-        }
+    let size = octets::read_u32(&guest.header, SIZE_AT) as usize;
+    if size != STATUS_ALONE && size != WITH_FLAGS {
+        return Err(NotAnAck);
     }
-    if !ring::is_whole(header, taken) {
-        return Sight::Partly;
+    if !guest.incoming.is_whole(&guest.header) {
+        return Ok(None);
     }
-    judge(kind, header, payload, size as usize)
+    let ack = judge(guest, size)?;
+    Ok(Some(ack))
 }
 
 // What the reader says of a whole ack with a payload of `size` octets.
-fn judge(kind: u32, header: &[u8; HEADER], payload: &[u8; MAX_ACK_PAYLOAD], size: usize) -> Sight
+#[tactic(auto, using(crate::proofs::Sights::put_part))]
+fn judge(guest: &Guest, size: usize) -> Result<AckRead, NotAnAck>
     requires { size ≤ max_ack_payload }
-    ensures { sight_of result ≡ judged (read_ack kind (header.now ++ take size payload.now)) }
+    ensures { ack_outcome_of result ≡ read_ack (type_in guest.now.request) (guest.now.header ++ take size guest.now.payload) }
 {
-    let mut message = [0u8; MAX_ACK];
-    octets::copy(&mut message[0..HEADER], header);
-    octets::copy(&mut message[HEADER..MAX_ACK], payload);
-    let answer = ack_reader::read_ack(kind, &message[0..HEADER + size]);
-    match answer {
-        AckAnswer::Status(status) => Sight::Status(status),
-        AckAnswer::Flags(flags) => Sight::Flags(flags),
-        AckAnswer::NotAnAck => Sight::Refused,
-    }
+    let kind = octets::read_u32(&guest.request, 0);
+    let mut message = [0; MAX_ACK];
+    message[..HEADER].copy_from_slice(&guest.header);
+    message[HEADER..].copy_from_slice(&guest.payload);
+    ack_reader::read_ack(kind, &message[..HEADER + size])
 }

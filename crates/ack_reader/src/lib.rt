@@ -4,66 +4,66 @@
 
 ghost use Rattle.std.specs.Prelude.{◌≡◌};
 ghost use Rattle.messages.specs.Requests.{request_of, carries_flags};
-ghost use Rattle.guest_messages.specs.Reader.{status_allowed, read_ack, ack_outcome_of};
+ghost use Rattle.guest_messages.specs.Reader.{status_allowed, ack_size, read_ack, ack_outcome_of};
 
-use guest_messages::AckAnswer;
+use guest_messages::{AckRead, NotAnAck};
 use messages::{
     ACK_TYPE, ALL_FLAGS, BUFFER_OVERFLOW, FIELD, GET_FLAGS, HEADER, NOT_SUPPORTED, SET_MAPPING,
+    SIZE_AT, SUCCESS,
 };
 
 // Reads the ack to a request of type `kind`.
-pub fn read_ack(kind: u32, message: &[u8]) -> AckAnswer
+#[tactic(auto, using(guest_messages::proofs::Accepts::statuses), unfolding(guest_messages::specs::Reader::read_ack, guest_messages::specs::Reader::is_ack_to))]
+pub fn read_ack(kind: u32, message: &[u8]) -> Result<AckRead, NotAnAck>
     ensures { ack_outcome_of result ≡ read_ack kind message.now }
 {
-    if message.len() < HEADER + FIELD {
-        return AckAnswer::NotAnAck;
+    if message.len() < HEADER + FIELD || octets::read_u32(message, 0) != ACK_TYPE {
+        return Err(NotAnAck);
     }
-    if octets::read_u32(message, 0) != ACK_TYPE {
-        return AckAnswer::NotAnAck;
-    }
-    let size = octets::read_u32(message, messages::SIZE_AT) as usize;
-    if message.len() - HEADER != size {
-        return AckAnswer::NotAnAck;
-    }
+    let size = octets::read_u32(message, SIZE_AT) as usize;
     let status = octets::read_u64(message, HEADER);
-    if carries_flags(kind, status) {
-        if size != FIELD + FIELD {
-            return AckAnswer::NotAnAck;
-        }
-        let flags = octets::read_u64(message, HEADER + FIELD);
-        if flags > ALL_FLAGS as u64 {
-            return AckAnswer::NotAnAck;
-        }
-        return AckAnswer::Flags(flags as u8);
+    if message.len() - HEADER != size
+        || !is_allowed(kind, status)
+        || size != ack_size(kind, status)
+    {
+        return Err(NotAnAck);
     }
-    if size != FIELD {
-        return AckAnswer::NotAnAck;
+    if !carries_flags(kind, status) {
+        return Ok(AckRead::Status(status as u8));
     }
-    if !is_allowed(kind, status) {
-        return AckAnswer::NotAnAck;
+    let flags = octets::read_u64(message, HEADER + FIELD);
+    if flags > ALL_FLAGS as u64 {
+        return Err(NotAnAck);
     }
-    AckAnswer::Status(status as u8)
-}
-
-// Whether the ack with this status has flags behind it.
-fn carries_flags(kind: u32, status: u64) -> bool
-    ensures { result ≡ carries_flags (request_of kind) status }
-{
-    if kind != GET_FLAGS {
-        return false;
-    }
-    status == messages::SUCCESS as u64
+    Ok(AckRead::Flags(flags as u8))
 }
 
 // Whether a request of this type can get this status.
+#[tactic(auto, unfolding(guest_messages::specs::Reader::status_allowed, messages::specs::Requests::request_of))]
 fn is_allowed(kind: u32, status: u64) -> bool
     ensures { result ≡ status_allowed (request_of kind) status }
 {
-    if kind < GET_FLAGS {
-        return status == NOT_SUPPORTED as u64;
+    match kind {
+        GET_FLAGS..=SET_MAPPING => status <= BUFFER_OVERFLOW as u64,
+        _ => status == NOT_SUPPORTED as u64,
     }
-    if kind > SET_MAPPING {
-        return status == NOT_SUPPORTED as u64;
+}
+
+// The size of the ack with this status.
+fn ack_size(kind: u32, status: u64) -> usize
+    ensures { result ≡ ack_size (request_of kind) status }
+{
+    if carries_flags(kind, status) {
+        FIELD + FIELD
+    } else {
+        FIELD
     }
-    status <= BUFFER_OVERFLOW as u64
+}
+
+// Whether the ack with this status has flags behind it.
+#[tactic(auto, unfolding(messages::specs::Requests::request_of, messages::specs::Requests::carries_flags))]
+fn carries_flags(kind: u32, status: u64) -> bool
+    ensures { result ≡ carries_flags (request_of kind) status }
+{
+    kind == GET_FLAGS && status == SUCCESS as u64
 }

@@ -1,11 +1,12 @@
 -- What the writer answered and left, as an exported call tells it.
+use Rattle.std.specs.Prelude.{Result}
 use Rattle.octets.specs.Prelude.{◌≡◌, ap, ◌∙◌, List, ℕ}
 use Rattle.octets.specs.Outcome.{Outcome, number_of, placed, itself}
 use Rattle.guest_messages.specs.Writer.{After, written, written_outcome_of, after}
-use Rattle.guest_messages.specs.declared.Written.{Written}
+use Rattle.guest_messages.specs.declared.WriteRefusal.{WriteRefusal}
 use Rattle.by_number.specs.Answers.{Writes}
 
-pub writes : (message : Outcome (List ℕ)) (buffer left : List ℕ) (answer : Written) (before r length : ℕ)
+pub writes : (message : Outcome (List ℕ)) (buffer left : List ℕ) (answer : Result ℕ WriteRefusal) (before r length : ℕ)
     → after answer left ≡ written message buffer
     → (r ≡ number_of (written_outcome_of answer)) × (length ≡ placed itself (written_outcome_of answer) before)
     → Writes message buffer before r left length

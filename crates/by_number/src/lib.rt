@@ -5,28 +5,26 @@
 ghost use Rattle.std.specs.Prelude.{◌≡◌};
 ghost use Rattle.octets.specs.Outcome.{number_of, placed, itself};
 ghost use Rattle.guest_messages.specs.Writer.{written_outcome_of};
-ghost use Rattle.guest_messages.specs.Reader.{read_ack};
+ghost use Rattle.guest_messages.specs.Reader.{reading_in, read_ack};
 ghost use Rattle.by_number.specs.Answers.{status_told, flags_told};
 
-use guest_messages::{AckAnswer, BUFFER_TOO_SHORT, VALUE_NOT_LISTED, Written};
+use guest_messages::{AckRead, WriteRefusal};
 use messages::SUCCESS;
 
 // What a call answers that is not refused.
 const DONE: u32 = 0;
 
 // The number of an answer of the writer, with the message's length put into its place.
-pub fn tell_written(answer: Written, length: &mut usize) -> u32
+pub fn tell_written(answer: Result<usize, WriteRefusal>, length: &mut usize) -> u32
     ensures value { result ≡ number_of (written_outcome_of answer) }
     ensures length_after { length.new ≡ placed itself (written_outcome_of answer) length.old }
 {
     match answer {
-        Written::Length(n) => {
+        Ok(n) => {
             *length = n;
             DONE
         }
-        Written::KeyLength => toeplitz::KEY_LENGTH_WRONG,
-        Written::Value => VALUE_NOT_LISTED,
-        Written::Buffer => BUFFER_TOO_SHORT,
+        Err(refusal) => refusal.into(),
     }
 }
 
@@ -36,17 +34,27 @@ pub fn read_ack(kind: u32, message: &[u8], status: &mut u32, flags: &mut u32) ->
     ensures status_after { status.new ≡ placed status_told (read_ack kind message.now) status.old }
     ensures flags_after { flags.new ≡ placed flags_told (read_ack kind message.now) flags.old }
 {
-    let answer = ack_reader::read_ack(kind, message);
-    match answer {
-        AckAnswer::Status(s) => {
-            *status = s as u32;
+    match ack_reader::read_ack(kind, message) {
+        Ok(ack) => {
+            tell_ack(ack, status, flags);
             DONE
         }
-        AckAnswer::Flags(f) => {
+        Err(refusal) => refusal.into(),
+    }
+}
+
+// Puts what an ack says into its places. A status alone leaves that of the flags as it was.
+pub fn tell_ack(ack: AckRead, status: &mut u32, flags: &mut u32)
+    ensures status_after { status.new ≡ status_told (reading_in ack) status.old }
+    ensures flags_after { flags.new ≡ flags_told (reading_in ack) flags.old }
+{
+    match ack {
+        AckRead::Status(st) => {
+            *status = st as u32;
+        }
+        AckRead::Flags(f) => {
             *status = SUCCESS as u32;
             *flags = f as u32;
-            DONE
         }
-        AckAnswer::NotAnAck => guest_messages::NOT_AN_ACK,
     }
 }

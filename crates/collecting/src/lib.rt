@@ -2,59 +2,43 @@
 #![tactic(auto)]
 
 ghost use Rattle.std.specs.Prelude.{◌≡◌, ◌^◌, ◌≤◌, ◌<◌};
-ghost use Rattle.octets.specs.Prelude.{false, length, get_or};
+ghost use Rattle.octets.specs.Prelude.{length};
 ghost use Rattle.page.specs.Page.{page_size, area_size};
-ghost use Rattle.ring.specs.Reading.{is_whole};
-ghost use Rattle.guest_steps.specs.Inner.{Collects};
+ghost use Rattle.ring.specs.Reading.{GoodIncoming};
+ghost use Rattle.guest_steps.specs.Guest.{max_ack_payload, state_of, incoming};
+ghost use Rattle.guest_steps.specs.Calls.{left, read_on};
 
-use guest_steps::{FAILED, GuestAnswer, IDLE, Sight, TAKEN};
-use guest_writes::{keep, settle};
+use guest_steps::{FAILED, Guest, IDLE, Progress, Refusal};
 
-// Reads octets of the ack, of which so many stand unread, to a request of type `kind`. Of an ack that is refused nothing
-// is counted, and the page stays.
-pub fn collect(
-    page: &mut [u8],
-    kind: u32,
-    unread: u32,
-    numbers: &mut [u64; guest_steps::NUMBERS],
-    header: &mut [u8; messages::HEADER],
-    payload: &mut [u8; guest_steps::MAX_ACK_PAYLOAD],
-) -> GuestAnswer
-    requires page_len { (length page.old ≡ page_size) × (unread ≤ area_size) × (is_whole header.old (get_or numbers.old 4 0) ≡ false) }
-    requires numbers_bound { (get_or numbers.old 3 0 < 2 ^ 32) × (get_or numbers.old 5 0 < 2 ^ 32) }
-    ensures { Collects kind numbers.old header.old payload.old page.old unread result
-        numbers.new header.new payload.new page.new }
+// Reads octets of the ack, of which so many stand unread. Of an ack that is refused nothing is counted, and the page stays.
+#[tactic(auto, unfolding(guest_steps::specs::Calls::read_on, guest_steps::specs::Calls::concluded, ring::specs::Reading::received_from))]
+pub fn collect(guest: &mut Guest, unread: u32, page: &mut [u8]) -> Result<Progress, Refusal>
+    requires page_len { (length page.old ≡ page_size) × (unread ≤ area_size) × (guest.old.outgoing.prod < 2 ^ 32) }
+    requires good_incoming { GoodIncoming max_ack_payload (incoming (state_of guest.old)) }
+    ensures { left result (state_of guest.new) page.new ≡ read_on (state_of guest.old) page.old unread }
 {
-    let phase = numbers[guest_steps::PHASE];
-    let before = numbers[guest_steps::OWN_RSP_CONS] as u32;
-    let n = ring::receive(
+    let rsp_cons = guest.incoming.cons;
+    guest.incoming.receive(
         &page[..],
         page::RESPONSES,
-        header,
-        payload,
-        numbers[TAKEN],
-        before,
+        &mut guest.header,
+        &mut guest.payload,
         unread,
     );
-    let taken = numbers[TAKEN] + n as u64;
-    let rsp_cons = std::num::wrapping_add_u32(before, n);
-    let sight = ack_progress::look(kind, header, payload, taken);
-    match sight {
-        Sight::Partly => {
-            settle(numbers, phase, taken, rsp_cons, page);
-            GuestAnswer::Pending
+    let Ok(seen) = ack_progress::look(guest) else {
+        guest.phase = FAILED;
+        guest.incoming.taken = 0;
+        guest.incoming.cons = rsp_cons;
+        return Err(Refusal::AckRefused);
+    };
+    let progress = match seen {
+        None => Progress::Pending,
+        Some(ack) => {
+            guest.phase = IDLE;
+            guest.incoming.taken = 0;
+            Progress::Acked(ack)
         }
-        Sight::Refused => {
-            keep(numbers, FAILED, 0, before);
-            GuestAnswer::Refused(guest_steps::Refusal::AckRefused)
-        }
-        Sight::Status(status) => {
-            settle(numbers, IDLE, 0, rsp_cons, page);
-            GuestAnswer::AckedStatus(status)
-        }
-        Sight::Flags(flags) => {
-            settle(numbers, IDLE, 0, rsp_cons, page);
-            GuestAnswer::AckedFlags(flags)
-        }
-    }
+    };
+    guest_writes::write_counts(guest, page);
+    Ok(progress)
 }

@@ -1,4 +1,7 @@
 -- Setup gives a good guest, and so does every call on a good one.
+use Rattle.std.specs.Prelude.{Result}
+use Rattle.guest_steps.specs.declared.Progress.{Progress}
+use Rattle.guest_steps.specs.declared.Refusal.{Refusal}
 use Rattle.octets.specs.Prelude.{◌≡◌, refl, sym, ap, subst, ◌∙◌, List, ◌++◌, false, ℕ, ◌^◌, ◌≤◌, ◌<◌, arith, length, drop, length-append}
 use Rattle.octets.specs.Prelude.{length-drop, eqb, leb, eqb-true, ltb-false}
 use Rattle.octets.specs.Numbers.{octets_of}
@@ -15,7 +18,7 @@ use Rattle.ring.proofs.Sides.{grown, none-waits, good-received, good-sent}
 use Rattle.guest_messages.specs.Refusals.{value_not_listed, buffer_too_short}
 use Rattle.guest_messages.specs.Writer.{fields_of, get_flags_message, set_flags_message, set_key_message, set_mapping_message}
 use Rattle.guest_steps.specs.Guest.{idle, failed, max_request, max_ack_payload, incoming, owes, guest_at_setup, Good, GuestState}
-use Rattle.guest_steps.specs.Calls.{After, unread_acks, begun, wrote_on, start_of, done_with, read_on, event_of}
+use Rattle.guest_steps.specs.Calls.{After, unread_acks, begun, wrote_on, start_of, done_with, read_on, event_of, left}
 use Rattle.frontend.specs.Rules.{Asked, gets_flags, sets_flags, sets_key, sets_mapping, room, after_reading}
 use Rattle.guest_messages.proofs.Theorems.{message-lengths}
 use Rattle.frontend.proofs.Ways.{Way, leaves, writes, event-ways, read-ways, start-ways}
@@ -151,3 +154,11 @@ good-event g page good =
 -- what a call in place leaves is good where what the definition leaves is
 pub left-good : (x a : After) → x ≡ a → Good a.state → Good x.state
 left-good x a e = subst Good (sym (ap (λ (y : After). y.state) e))
+
+pub event-leaves-good : (r : Result Progress Refusal) (g h : GuestState) (page octets : List ℕ) → Good g → left r h octets ≡ event_of g page
+    → (left r h octets ≡ event_of g page) × Good h
+event-leaves-good r g h page octets good e = (e, left-good _ _ e (good-event g page good))
+
+pub start-leaves-good : (o : Outcome (List ℕ)) (x : After) (g : GuestState) (page : List ℕ) → Asked o → Good g → x ≡ start_of o g page
+    → (x ≡ start_of o g page) × Good x.state
+start-leaves-good o x g page asked good e = (e, left-good x _ e (good-started o g page (asked-fits o asked) good))

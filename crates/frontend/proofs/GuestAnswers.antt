@@ -16,8 +16,10 @@ use Rattle.guest_steps.specs.Calls.{After, unread_requests, unread_acks, refused
 use Rattle.guest_steps.specs.Calls.{judged, concluded, read_on, event_of}
 use Rattle.frontend.specs.Rules.{Asked, Accepted, room, after_reading, Awaits, ack_seen, Pends, no-request, last_written, ack-in-part}
 use Rattle.frontend.specs.Rules.{RefusesAck, before, now}
-use Rattle.guest_steps.specs.declared.GuestAnswer.{GuestAnswer}
-use Rattle.guest_steps.specs.declared.GuestAnswer.TheVariants.{Pending, RequestOwed, AckedStatus, AckedFlags, Refused}
+use Rattle.std.specs.Prelude.{Result, Ok, Err}
+use Rattle.guest_messages.specs.declared.AckRead.TheVariants.{Status, Flags}
+use Rattle.guest_steps.specs.declared.Progress.{Progress}
+use Rattle.guest_steps.specs.declared.Progress.TheVariants.{Pending, RequestOwed, Acked}
 use Rattle.guest_steps.specs.declared.Refusal.{Refusal}
 use Rattle.guest_steps.specs.declared.Refusal.TheVariants.{PageLength, RequestCount, ResponseCount, AckRefused, Outstanding}
 use Rattle.frontend.proofs.Goodness.{WriterRefuses, asked-refused}
@@ -31,24 +33,24 @@ refusal k =
     (cond (eqb k responses_wrong) ResponseCount
     (cond (eqb k not_an_ack) AckRefused Outstanding)))
 
-unfoldable guest-answer : Told → GuestAnswer
-guest-answer (number k) = cond (eqb k pending) Pending (cond (eqb k request_owed) RequestOwed (Refused (refusal k)))
-guest-answer (acked (status st)) = AckedStatus st
-guest-answer (acked (status_and_flags st flags)) = AckedFlags flags
+unfoldable guest-answer : Told → Result Progress Refusal
+guest-answer (number k) = cond (eqb k pending) (Ok Pending) (cond (eqb k request_owed) (Ok RequestOwed) (Err (refusal k)))
+guest-answer (acked (status st)) = Ok (Acked (Status st))
+guest-answer (acked (status_and_flags st flags)) = Ok (Acked (Flags flags))
 
-guest-answer-back : (a : GuestAnswer) → guest-answer (told_of a) ≡ a
+guest-answer-back : (a : Result Progress Refusal) → guest-answer (told_of a) ≡ a
 unfolding guest-answer refusal
-guest-answer-back Pending = refl
-guest-answer-back RequestOwed = refl
-guest-answer-back (AckedStatus st) = refl
-guest-answer-back (AckedFlags flags) = refl
-guest-answer-back (Refused PageLength) = refl
-guest-answer-back (Refused RequestCount) = refl
-guest-answer-back (Refused ResponseCount) = refl
-guest-answer-back (Refused AckRefused) = refl
-guest-answer-back (Refused Outstanding) = refl
+guest-answer-back (Ok Pending) = refl
+guest-answer-back (Ok RequestOwed) = refl
+guest-answer-back (Ok (Acked (Status st))) = refl
+guest-answer-back (Ok (Acked (Flags flags))) = refl
+guest-answer-back (Err PageLength) = refl
+guest-answer-back (Err RequestCount) = refl
+guest-answer-back (Err ResponseCount) = refl
+guest-answer-back (Err AckRefused) = refl
+guest-answer-back (Err Outstanding) = refl
 
-pub guest-answer-determined : (a b : GuestAnswer) → told_of a ≡ told_of b → a ≡ b
+pub guest-answer-determined : (a b : Result Progress Refusal) → told_of a ≡ told_of b → a ≡ b
 guest-answer-determined a b e = sym (guest-answer-back a) ∙ ap guest-answer e ∙ guest-answer-back b
 
 -- an answer is a number but 1 where that is its number, and answers with other numbers differ

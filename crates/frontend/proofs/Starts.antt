@@ -4,13 +4,15 @@ use Rattle.octets.specs.Outcome.{Outcome, value, refused}
 use Rattle.octets.proofs.Outcomes.{value_same, refused-same, value-not-refused, test-value}
 use Rattle.octets.proofs.Truth.{by-test}
 use Rattle.page.specs.Page.{page_size, area_size}
-use Rattle.guest_messages.specs.Refusals.{buffer_too_short}
+use Rattle.guest_messages.specs.Refusals.{buffer_too_short, value_not_listed, write_refusal_number}
+use Rattle.toeplitz.specs.Refusals.{key_length_wrong}
 use Rattle.guest_messages.specs.Writer.{After, written, written_outcome_of, after}
-use Rattle.guest_messages.specs.declared.Written.{Written}
-use Rattle.guest_messages.specs.declared.Written.TheVariants.{Length, Buffer}
+use Rattle.std.specs.Prelude.{Result, Ok, Err}
+use Rattle.guest_messages.specs.declared.WriteRefusal.{WriteRefusal}
+use Rattle.guest_messages.specs.declared.WriteRefusal.TheVariants.{KeyLength, Value, Buffer}
 use Rattle.guest_steps.specs.Refusals.{request_outstanding}
 use Rattle.guest_steps.specs.Guest.{GuestState, max_request, idle, outstanding, guest_of}
-use Rattle.guest_steps.specs.Calls.{Found, unread_requests, found, wrote_on, message_of, started_by, readied, start_by, start_of, left_by}
+use Rattle.guest_steps.specs.Calls.{Found, unread_requests, found, wrote_on, message_of, started_by, readied, start_by, start_of, refused_with}
 use Rattle.frontend.specs.Rules.{Asked, gets_flags, sets_flags, sets_key, sets_mapping}
 use Rattle.guest_steps.specs.declared.Ask.{Ask}
 use Rattle.guest_steps.specs.declared.Ask.TheVariants.{GetFlags, SetFlags, SetKey, SetMapping}
@@ -46,14 +48,14 @@ written-ways (value m) request P placed short refusing =
     (λ t. short m refl (leb-false _ _ t))
 written-ways (refused k) request P placed short refusing = refusing k refl
 
-module _ (o : Outcome (List ℕ)) (request buffer : List ℕ) (w : Written) (e : after w buffer ≡ written o request) where
+module _ (o : Outcome (List ℕ)) (request buffer : List ℕ) (w : Result ℕ WriteRefusal) (e : after w buffer ≡ written o request) where
   answer-same : written_outcome_of w ≡ (written o request).answer
   answer-same = ap (λ (a : After). a.answer) e
 
   buffer-same : buffer ≡ (written o request).buffer
   buffer-same = ap (λ (a : After). a.buffer) e
 
-  pub wrote : (n : ℕ) → w ≡ Length n → Wrote o request n buffer
+  pub wrote : (n : ℕ) → w ≡ Ok n → Wrote o request n buffer
   wrote n l =
       written-ways o request (λ (a : Outcome ℕ) (b : List ℕ). value n ≡ a → buffer ≡ b → Wrote o request n buffer)
       (λ m is x y. record { message = m; is = is; size = value_same _ _ x; octets = y })
@@ -68,28 +70,41 @@ module _ (o : Outcome (List ℕ)) (request buffer : List ℕ) (w : Written) (e :
       (λ j is x y. (is ∙ ap refused (sym (refused-same k j x)), y)) (sym r ∙ answer-same) buffer-same
 
   -- and it refuses none of the four requests for its place
-  pub has-place : Asked o → length request ≡ max_request → w ≡ Buffer → ⊥
+  pub has-place : Asked o → length request ≡ max_request → w ≡ Err Buffer → ⊥
   has-place asked long is-buffer =
       written-ways o request (λ (a : Outcome ℕ) (_ : List ℕ). refused buffer_too_short ≡ a → ⊥) (λ m is x. value-not-refused _ _ (sym x))
       (λ m is short x. omega (arith, asked-fits o asked m is)) (λ k is x. (asked-refused o asked k is).2 (sym (refused-same _ k x)))
       (ap written_outcome_of (sym is-buffer) ∙ answer-same)
 
 -- what is asked for is one of the four requests
-pub asks : (ask : Ask) (key entries : List ℕ) → Asked (message_of ask key entries)
-asks GetFlags key entries = gets_flags
-asks (SetFlags flags) key entries = sets_flags flags
-asks SetKey key entries = sets_key key
-asks SetMapping key entries = sets_mapping entries
+pub asks : (ask : Ask) → Asked (message_of ask)
+asks GetFlags = gets_flags
+asks (SetFlags flags) = sets_flags flags
+asks (SetKey key) = sets_key key.now
+asks (SetMapping entries) = sets_mapping entries.now
+
+-- what the writer's answer says of a request that is asked for, in a place with room for each of them
+module _ (ask : Ask) (request buffer : List ℕ) where
+  pub written-fits : (n : ℕ) → after (Ok n) buffer ≡ written (message_of ask) request → n ≤ max_request
+  written-fits n e =
+      let w = wrote (message_of ask) request buffer (Ok n) e n refl in
+      rw w.size (asked-fits (message_of ask) (asks ask) w.message w.is)
+
+  pub refused-by : (r : WriteRefusal) → length request ≡ max_request → after (Err r) buffer ≡ written (message_of ask) request
+      → (message_of ask ≡ refused (write_refusal_number r)) × (buffer ≡ request)
+  refused-by KeyLength long e = refuses (message_of ask) request buffer (Err KeyLength) e key_length_wrong (λ x. omega (arith, x)) refl
+  refused-by Value long e = refuses (message_of ask) request buffer (Err Value) e value_not_listed (λ x. omega (arith, x)) refl
+  refused-by Buffer long e = absurd (has-place (message_of ask) request buffer (Err Buffer) e (asks ask) long refl)
 
 -- a start, by what it finds: it is stopped
 module _ (o : Outcome (List ℕ)) (g : GuestState) (page : List ℕ) where
-  pub starts-stopped : (k : ℕ) → refused k ≡ readied (found g page) g → left_by k g page ≡ start_of o g page
+  pub starts-stopped : (k : ℕ) → refused k ≡ readied (found g page) g → refused_with k g page ≡ start_of o g page
   unfolding start_by
   starts-stopped k stopped = rw (← stopped) refl
 
   -- or it has room: the writer refuses the request, or it begins
   module _ (room : ℕ) (there : value room ≡ readied (found g page) g) where
-    pub starts-refused : (k : ℕ) → o ≡ refused k → left_by k g page ≡ start_of o g page
+    pub starts-refused : (k : ℕ) → o ≡ refused k → refused_with k g page ≡ start_of o g page
     unfolding start_by started_by
     starts-refused k e = rw (← there, e) refl
 

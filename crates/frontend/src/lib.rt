@@ -8,4 +8,4 @@ mod starting;
 
 pub use events::event;
 pub use setup::set_up;
-pub use starting::start;
+pub use starting::{StartRefusal, start};

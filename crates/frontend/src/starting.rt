@@ -1,45 +1,57 @@
-// The start of a request, on the parts of a guest as they are lent. The checks come first, then the writer puts the request
-// into its place, where nothing of another one is kept, and as much of it as fits goes to the page.
+// The start of a request. The checks come first, then the writer puts the request into its place, where nothing of another one is
+// kept, and as much of it as fits goes to the page.
 ghost use Rattle.std.specs.Prelude.{◌≡◌};
-ghost use Rattle.guest_steps.specs.Guest.{Good, guest_in};
-ghost use Rattle.guest_steps.specs.Calls.{left_by, message_of, start_of};
+ghost use Rattle.guest_steps.specs.Guest.{Good, state_of};
+ghost use Rattle.guest_steps.specs.Calls.{message_of, start_of};
+ghost use Rattle.frontend.specs.Starts.{start_refusal_number, started};
+ghost use Rattle.frontend.specs.declared.starting.StartRefusal.TheVariants.{Call, Request};
 
-use guest_messages::{VALUE_NOT_LISTED, Written};
-use guest_numbers::begun_number;
-use guest_starts::begin;
-use guest_steps::{MAX_REQUEST, NUMBERS, Readiness};
-use toeplitz::KEY_LENGTH_WRONG;
+use guest_messages::WriteRefusal;
+use guest_steps::{Ask, Guest, Progress, Refusal};
 
-// Starts a request of the guest whose parts are lent, on its page, and answers by number: 2 while octets of it are owed, 0 once
-// all are written, or a refusal. Key and entries are looked at only where they are asked for.
-pub fn start(
-    numbers: &mut [u64; NUMBERS],
-    request: &mut [u8; MAX_REQUEST],
-    header: &[u8; messages::HEADER],
-    payload: &[u8; guest_steps::MAX_ACK_PAYLOAD],
-    page: &mut [u8],
-    ask: guest_steps::Ask,
-    key: &[u8],
-    entries: &[u64],
-) -> u32
-    requires { Good (guest_in numbers.old request.old header.now payload.now) }
-    ensures { (left_by result (guest_in numbers.new request.new header.now payload.now) page.new
-        ≡ start_of (message_of ask key.now entries.now)
-        (guest_in numbers.old request.old header.now payload.now) page.old)
-        × Good (guest_in numbers.new request.new header.now payload.now) }
-{
-    let readiness = guest_starts::ready(&page[..], numbers);
-    match readiness {
-        Readiness::Stopped(refusal) => guest_numbers::refusal_number(refusal),
-        Readiness::Room(room) => {
-            let answer = guest_starts::write_request(ask, key, entries, &mut request[..]);
-            match answer {
-                Written::Length(n) => begun_number(begin(n, numbers, request, room, page)),
-                Written::KeyLength => KEY_LENGTH_WRONG,
-                Written::Value => VALUE_NOT_LISTED,
-                // Every message has its place, so the writer never answers this.
-                Written::Buffer => guest_messages::BUFFER_TOO_SHORT,
-            }
+// Why a request is not started: the call is refused, or the writer refuses the request.
+#[derive(Clone, Copy, Debug, PartialEq, Eq)]
+pub enum StartRefusal {
+    Call(Refusal),
+    Request(WriteRefusal),
+}
+
+impl From<Refusal> for StartRefusal {
+    ghost from_gives = { λ refusal e. e ≡ Call refusal };
+
+    fn from(refusal: Refusal) -> StartRefusal {
+        StartRefusal::Call(refusal)
+    }
+}
+
+impl From<WriteRefusal> for StartRefusal {
+    ghost from_gives = { λ refusal e. e ≡ Request refusal };
+
+    fn from(refusal: WriteRefusal) -> StartRefusal {
+        StartRefusal::Request(refusal)
+    }
+}
+
+impl From<StartRefusal> for u32 {
+    ghost from_gives = { λ refusal n. n ≡ start_refusal_number refusal };
+
+    fn from(refusal: StartRefusal) -> u32 {
+        match refusal {
+            StartRefusal::Call(refusal) => refusal.into(),
+            StartRefusal::Request(refusal) => refusal.into(),
         }
     }
+}
+
+// Starts a request of the guest on its page.
+#[tactic(auto, unfolding(guest_steps::specs::Calls::start_by, guest_steps::specs::Calls::started_by))]
+pub fn start(guest: &mut Guest, page: &mut [u8], ask: Ask) -> Result<Progress, StartRefusal>
+    requires { Good (state_of guest.old) }
+    ensures { (started result (state_of guest.new) page.new ≡ start_of (message_of ask.entry) (state_of guest.old) page.old)
+        × Good (state_of guest.new) }
+{
+    let room = guest_starts::ready(guest, &page[..])?;
+    // Every message has its place, so the writer never lacks room.
+    let length = guest_starts::write_request(ask, &mut guest.request)?;
+    Ok(guest_starts::begin(guest, length, room, page))
 }

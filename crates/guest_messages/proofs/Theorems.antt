@@ -20,43 +20,45 @@ use Rattle.messages.proofs.Theorems.{ack-is, answered-status}
 use Rattle.guest_messages.specs.Refusals.{buffer_too_short, value_not_listed}
 use Rattle.guest_messages.specs.Reader.{Reading, status, status_and_flags, answer_to, read_ack, ack_outcome_of, encoded}
 use Rattle.guest_messages.specs.Writer.{fields_of, get_flags_message, set_flags_message, set_key_message, set_mapping_message, written, written_outcome_of}
-use Rattle.guest_messages.specs.declared.Written.{Written}
-use Rattle.guest_messages.specs.declared.Written.TheVariants.{Length, KeyLength, Value, Buffer}
-use Rattle.guest_messages.specs.declared.AckAnswer.{AckAnswer}
-use Rattle.guest_messages.specs.declared.AckAnswer.TheVariants.{Status, Flags, NotAnAck}
+use Rattle.std.specs.Prelude.{Result, Ok, Err}
+use Rattle.guest_messages.specs.declared.WriteRefusal.{WriteRefusal}
+use Rattle.guest_messages.specs.declared.WriteRefusal.TheVariants.{KeyLength, Value, Buffer}
+use Rattle.guest_messages.specs.declared.AckRead.{AckRead}
+use Rattle.guest_messages.specs.declared.AckRead.TheVariants.{Status, Flags}
+use Rattle.guest_messages.specs.declared.NotAnAck.{NotAnAck}
 use Rattle.guest_messages.proofs.Buffers.{length_fields}
 use Rattle.guest_messages.proofs.Leaves.{refused-keeps, message-left, message-refused, answer-short, refuses-first}
 use Rattle.guest_messages.proofs.Judged.{get-flags-carried, set-flags-carried, set-key-carried, set-mapping-carried}
 use Rattle.guest_messages.proofs.Encodings.{read-value, ack-encoded}
 use Rattle.guest_messages.proofs.Answers.{status-allowed, read_back}
 
--- the readings of the enums keep answers apart, so the contracts leave the answers no choice
-unfoldable written-answer : Outcome ℕ → Written
-written-answer (value n) = Length n
-written-answer (refused k) = cond (eqb k key_length_wrong) KeyLength (cond (eqb k buffer_too_short) Buffer Value)
+-- the readings of the answers keep them apart, so the contracts leave the answers no choice
+unfoldable written-answer : Outcome ℕ → Result ℕ WriteRefusal
+written-answer (value n) = Ok n
+written-answer (refused k) = Err (cond (eqb k key_length_wrong) KeyLength (cond (eqb k buffer_too_short) Buffer Value))
 
-written-answer-back : (r : Written) → written-answer (written_outcome_of r) ≡ r
+written-answer-back : (r : Result ℕ WriteRefusal) → written-answer (written_outcome_of r) ≡ r
 unfolding written-answer
-written-answer-back (Length n) = refl
-written-answer-back KeyLength = refl
-written-answer-back Value = refl
-written-answer-back Buffer = refl
+written-answer-back (Ok n) = refl
+written-answer-back (Err KeyLength) = refl
+written-answer-back (Err Value) = refl
+written-answer-back (Err Buffer) = refl
 
-pub written-answer-determined : (r s : Written) → written_outcome_of r ≡ written_outcome_of s → r ≡ s
+pub written-answer-determined : (r s : Result ℕ WriteRefusal) → written_outcome_of r ≡ written_outcome_of s → r ≡ s
 written-answer-determined r s e = sym (written-answer-back r) ∙ ap written-answer e ∙ written-answer-back s
 
-unfoldable ack-answer : Outcome Reading → AckAnswer
-ack-answer (value (status st)) = Status st
-ack-answer (value (status_and_flags st flags)) = Flags flags
-ack-answer (refused k) = NotAnAck
+unfoldable ack-answer : Outcome Reading → Result AckRead NotAnAck
+ack-answer (value (status st)) = Ok (Status st)
+ack-answer (value (status_and_flags st flags)) = Ok (Flags flags)
+ack-answer (refused k) = Err (record {})
 
-ack-answer-back : (r : AckAnswer) → ack-answer (ack_outcome_of r) ≡ r
+ack-answer-back : (r : Result AckRead NotAnAck) → ack-answer (ack_outcome_of r) ≡ r
 unfolding ack-answer
-ack-answer-back (Status st) = refl
-ack-answer-back (Flags flags) = refl
-ack-answer-back NotAnAck = refl
+ack-answer-back (Ok (Status st)) = refl
+ack-answer-back (Ok (Flags flags)) = refl
+ack-answer-back (Err _) = refl
 
-pub ack-answer-determined : (r s : AckAnswer) → ack_outcome_of r ≡ ack_outcome_of s → r ≡ s
+pub ack-answer-determined : (r s : Result AckRead NotAnAck) → ack_outcome_of r ≡ ack_outcome_of s → r ≡ s
 ack-answer-determined r s e = sym (ack-answer-back r) ∙ ap ack-answer e ∙ ack-answer-back s
 
 -- the messages of the four requests have 8, 16, 48, and 8 and 8 times the entries, octets

@@ -1,5 +1,5 @@
 -- The guest's ack reader.
-use Rattle.std.specs.Prelude.{◌++◌, ◌&&◌, ◌+◌}
+use Rattle.std.specs.Prelude.{◌++◌, ◌&&◌, ◌+◌, Result, Ok, Err}
 use Rattle.octets.specs.Prelude.{List, Bool, true, cond, ℕ, length, eqb, leb}
 use Rattle.octets.specs.Numbers.{octets_of}
 use Rattle.octets.specs.Outcome.{Outcome, value, refused}
@@ -7,8 +7,9 @@ use Rattle.messages.specs.Wire.{header_size, field_size, message, type_in, size_
 use Rattle.messages.specs.Wire.{success, not_supported, buffer_overflow, all_flags}
 use Rattle.messages.specs.Requests.{Request, get_flags, set_flags, set_key, set_mapping, none, request_of, carries_flags}
 use Rattle.guest_messages.specs.Refusals.{not_an_ack}
-use Rattle.guest_messages.specs.declared.AckAnswer.{AckAnswer}
-use Rattle.guest_messages.specs.declared.AckAnswer.TheVariants.{Status, Flags, NotAnAck}
+use Rattle.guest_messages.specs.declared.AckRead.{AckRead}
+use Rattle.guest_messages.specs.declared.AckRead.TheVariants.{Status, Flags}
+use Rattle.guest_messages.specs.declared.NotAnAck.{NotAnAck}
 
 -- what an ack says: a status, and with it any flags
 pub data Reading : Type 0 where
@@ -47,11 +48,14 @@ reading_of r m = cond (carries_flags r (status_in m)) (status_and_flags (status_
 unfoldable pub read_ack : ℕ → List ℕ → Outcome Reading
 read_ack t m = cond (is_ack_to (request_of t) m) (value (reading_of (request_of t) m)) (refused not_an_ack)
 
--- the number and values that each case of the enum stands for
-abbrev pub ack_outcome_of : AckAnswer → Outcome Reading
-ack_outcome_of (Status st) = value (status st)
-ack_outcome_of (Flags flags) = value (status_and_flags success flags)
-ack_outcome_of NotAnAck = refused not_an_ack
+-- what each case of the enum says, and the number and values that an answer of the reader stands for
+abbrev pub reading_in : AckRead → Reading
+reading_in (Status st) = status st
+reading_in (Flags flags) = status_and_flags success flags
+
+abbrev pub ack_outcome_of : Result AckRead NotAnAck → Outcome Reading
+ack_outcome_of (Ok ack) = value (reading_in ack)
+ack_outcome_of (Err _) = refused not_an_ack
 
 -- what the host's ack to a request says, by its status
 abbrev pub answer_to : Request → ℕ → Reading

@@ -1,15 +1,14 @@
 -- The guest's message writer: the four requests, and what it answers and leaves in the output buffer.
-use Rattle.std.specs.Prelude.{◌∷◌, ◌++◌}
+use Rattle.std.specs.Prelude.{◌∷◌, ◌++◌, Result}
 use Rattle.octets.specs.Prelude.{List, [], cond, ℕ, length, drop, eqb, leb}
 use Rattle.octets.specs.Numbers.{octets_of}
-use Rattle.octets.specs.Outcome.{Outcome, value, refused}
+use Rattle.octets.specs.Outcome.{Outcome, value, refused, outcome_of}
 use Rattle.toeplitz.specs.Hash.{key_length}
 use Rattle.toeplitz.specs.Refusals.{key_length_wrong}
 use Rattle.messages.specs.Wire.{field_size, message, get_flags_type, set_flags_type, set_key_type, set_mapping_type, all_flags}
 use Rattle.messages.specs.Settings.{is_listed}
-use Rattle.guest_messages.specs.Refusals.{buffer_too_short, value_not_listed}
-use Rattle.guest_messages.specs.declared.Written.{Written}
-use Rattle.guest_messages.specs.declared.Written.TheVariants.{Length, KeyLength, Value, Buffer}
+use Rattle.guest_messages.specs.Refusals.{buffer_too_short, value_not_listed, write_refusal_number}
+use Rattle.guest_messages.specs.declared.WriteRefusal.{WriteRefusal}
 
 -- numbers in eight octets each, one after the other
 unfoldable pub fields_of : List ℕ → List ℕ
@@ -43,12 +42,9 @@ written (value m) buffer =
     (record { answer = refused buffer_too_short; buffer = buffer })
 written (refused k) buffer = record { answer = refused k; buffer = buffer }
 
--- the number and value that each case of the enum stands for
-abbrev pub written_outcome_of : Written → Outcome ℕ
-written_outcome_of (Length n) = value n
-written_outcome_of KeyLength = refused key_length_wrong
-written_outcome_of Value = refused value_not_listed
-written_outcome_of Buffer = refused buffer_too_short
+-- the number and value that an answer of the writer stands for
+abbrev pub written_outcome_of : Result ℕ WriteRefusal → Outcome ℕ
+written_outcome_of r = outcome_of write_refusal_number r
 
-abbrev pub after : Written → List ℕ → After
+abbrev pub after : Result ℕ WriteRefusal → List ℕ → After
 after r buffer = record { answer = written_outcome_of r; buffer = buffer }

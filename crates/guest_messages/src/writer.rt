@@ -1,102 +1,95 @@
-// The writer: each request's checks, then the room in the buffer, and only then the message. The header is
-// written first and the payload behind it, each into its own part of the buffer.
-ghost use Rattle.std.specs.Prelude.{◌≡◌, ◌++◌, ◌*◌, ◌≤◌};
+// The writer: each request's checks, then the room in the buffer, and only then the message, its header first and its payload
+// behind it.
+ghost use Rattle.std.specs.Prelude.{◌≡◌, ◌++◌, ◌+◌, ◌≤◌, ◌<◌, MatchResult};
 ghost use Rattle.octets.specs.Prelude.{length, drop};
-ghost use Rattle.messages.specs.Wire.{header_size, field_size, header};
-ghost use Rattle.messages.specs.Settings.{is_listed};
+ghost use Rattle.messages.specs.Wire.{header_size, max_payload, header, message};
+ghost use Rattle.messages.specs.Settings.{max_entries, is_listed};
 ghost use Rattle.guest_messages.specs.Writer.{fields_of, get_flags_message, set_flags_message, set_key_message, set_mapping_message, after, written};
+ghost use Rattle.octets.specs.Outcome.{value};
 
-use crate::Written;
-use messages::{ALL_FLAGS, FIELD, HEADER, MAX_ENTRIES, SET_FLAGS, SET_KEY, SET_MAPPING, SIZE_AT};
+use crate::WriteRefusal;
+use messages::{
+    ALL_FLAGS, FIELD, GET_FLAGS, HEADER, MAX_ENTRIES, SET_FLAGS, SET_KEY, SET_MAPPING, SIZE_AT,
+};
 use toeplitz::KEY_LENGTH;
 
 // Asks which flags the host supports.
-pub fn write_get_flags(buffer: &mut [u8]) -> Written
+#[tactic(auto, using(crate::proofs::Buffers::fields_none))]
+pub fn write_get_flags(buffer: &mut [u8]) -> Result<usize, WriteRefusal>
     ensures { after result buffer.new ≡ written get_flags_message buffer.old }
 {
-    if buffer.len() < HEADER {
-        return Written::Buffer;
-    }
-    write_header(buffer, messages::GET_FLAGS, 0);
-    Written::Length(HEADER)
+    write_fields(buffer, GET_FLAGS, &[])
 }
 
 // Sets the flags of the hash types to use.
-pub fn write_set_flags(buffer: &mut [u8], flags: u64) -> Written
+#[tactic(auto, using(crate::proofs::Buffers::fields_one), unfolding(crate::specs::Writer::written))]
+pub fn write_set_flags(buffer: &mut [u8], flags: u64) -> Result<usize, WriteRefusal>
     ensures { after result buffer.new ≡ written (set_flags_message flags) buffer.old }
 {
     if flags > ALL_FLAGS as u64 {
-        return Written::Value;
+        return Err(WriteRefusal::Value);
     }
-    let length = HEADER + FIELD;
-    if buffer.len() < length {
-        return Written::Buffer;
-    }
-    write_header(buffer, SET_FLAGS, FIELD as u32);
-    octets::write_u64(&mut buffer[HEADER..length], 0, flags);
-    Written::Length(length)
+    write_fields(buffer, SET_FLAGS, &[flags])
 }
 
 // Sets the key, octet for octet.
-pub fn write_set_key(buffer: &mut [u8], key: &[u8]) -> Written
+#[tactic(auto, using(crate::proofs::Buffers::message_short), unfolding(crate::specs::Writer::written))]
+pub fn write_set_key(buffer: &mut [u8], key: &[u8]) -> Result<usize, WriteRefusal>
     ensures { after result buffer.new ≡ written (set_key_message key.now) buffer.old }
 {
     if key.len() != KEY_LENGTH {
-        return Written::KeyLength;
+        return Err(WriteRefusal::KeyLength);
     }
-    let length = HEADER + KEY_LENGTH;
-    if buffer.len() < length {
-        return Written::Buffer;
-    }
-    write_header(buffer, SET_KEY, KEY_LENGTH as u32);
-    octets::copy(&mut buffer[HEADER..length], key);
-    Written::Length(length)
+    let length = write_header(buffer, SET_KEY, KEY_LENGTH)?;
+    buffer[HEADER..length].copy_from_slice(key);
+    Ok(length)
 }
 
 // Sets the mapping: the queue of each entry.
-pub fn write_set_mapping(buffer: &mut [u8], entries: &[u64]) -> Written
+#[tactic(auto, unfolding(crate::specs::Writer::written, messages::specs::Settings::is_listed))]
+pub fn write_set_mapping(buffer: &mut [u8], entries: &[u64]) -> Result<usize, WriteRefusal>
     ensures { after result buffer.new ≡ written (set_mapping_message entries.now) buffer.old }
 {
-    let count = entries.len();
-    if !is_listed(count) {
-        return Written::Value;
+    if !is_listed(entries.len()) {
+        return Err(WriteRefusal::Value);
     }
-    let size = count * FIELD;
-    let length = HEADER + size;
-    if buffer.len() < length {
-        return Written::Buffer;
-    }
-    write_header(buffer, SET_MAPPING, size as u32);
-    write_fields(&mut buffer[HEADER..length], entries);
-    Written::Length(length)
+    write_fields(buffer, SET_MAPPING, entries)
 }
 
 // Whether a mapping may have this many entries: 1, 2, 4, .. 128.
+#[tactic(auto, unfolding(messages::specs::Settings::is_listed))]
 fn is_listed(count: usize) -> bool
     ensures { result ≡ is_listed count }
 {
-    if count > MAX_ENTRIES {
-        return false;
-    }
-    messages::is_power_of_two(count as u32)
+    count <= MAX_ENTRIES && messages::is_power_of_two(count as u32)
 }
 
-fn write_header(buffer: &mut [u8], kind: u32, size: u32)
-    requires { header_size ≤ length buffer.old }
-    ensures { buffer.new ≡ header kind size ++ drop header_size buffer.old }
+// A message whose payload is these numbers in eight octets each, one after the other.
+#[tactic(auto, using(crate::proofs::Buffers::fields_short, crate::proofs::Buffers::fields_put, crate::proofs::Buffers::fields_next, crate::proofs::Buffers::fields_none, std::proofs::Common::take_all))]
+fn write_fields(buffer: &mut [u8], kind: u32, numbers: &[u64]) -> Result<usize, WriteRefusal>
+    requires { length numbers.now ≤ max_entries }
+    ensures { after result buffer.new ≡ written (value (message kind (fields_of numbers.now))) buffer.old }
 {
+    let length = write_header(buffer, kind, numbers.len() * FIELD)?;
+    for (k, number) in numbers.iter().enumerate() {
+        octets::write_u64(buffer, HEADER + k * FIELD, *number);
+    }
+    Ok(length)
+}
+
+// The header of a message with a payload of `size` octets, if the buffer has room for both; answers how long both are.
+#[tactic(auto, using(crate::proofs::Buffers::header_put))]
+fn write_header(buffer: &mut [u8], kind: u32, size: usize) -> Result<usize, WriteRefusal>
+    requires { size ≤ max_payload }
+    ensures { MatchResult result
+        (λ n. (n ≡ header_size + size) × (n ≤ length buffer.old) × (buffer.new ≡ header kind size ++ drop header_size buffer.old))
+        (λ refusal. (refusal ≡ WriteRefusal.Buffer) × (length buffer.old < header_size + size) × (buffer.new ≡ buffer.old)) }
+{
+    let length = HEADER + size;
+    if buffer.len() < length {
+        return Err(WriteRefusal::Buffer);
+    }
     octets::write_u32(buffer, 0, kind);
-    octets::write_u32(buffer, SIZE_AT, size);
-}
-
-// Writes each number into eight octets of the part, one after the other.
-fn write_fields(part: &mut [u8], numbers: &[u64])
-    requires { length part.old ≡ length numbers.now * field_size }
-    ensures { part.new ≡ fields_of numbers.now }
-{
-    let mut k = 0;
-    while k < numbers.len() {
-        octets::write_u64(part, k * FIELD, numbers[k]);
-        k += 1;
-    }
+    octets::write_u32(buffer, SIZE_AT, size as u32);
+    Ok(length)
 }

@@ -1,68 +1,52 @@
-// The stages of a start: what it finds, the request put into its place, the request begun, and the number that it answers.
+// The stages of a start: what it finds, the request put into its place, and the request begun.
 #![tactic(auto)]
 
-ghost use Rattle.std.specs.Prelude.{◌≡◌, ◌^◌, ◌≤◌, ◌<◌};
-ghost use Rattle.octets.specs.Prelude.{length, get_or};
+ghost use Rattle.std.specs.Prelude.{◌≡◌, ◌^◌, ◌≤◌, ◌<◌, IfOk};
+ghost use Rattle.octets.specs.Prelude.{length};
 ghost use Rattle.page.specs.Page.{page_size, area_size};
 ghost use Rattle.guest_messages.specs.Writer.{after, written};
-ghost use Rattle.guest_steps.specs.Guest.{max_request};
-ghost use Rattle.guest_steps.specs.Calls.{message_of};
-ghost use Rattle.guest_steps.specs.Inner.{Readies, Begins};
+ghost use Rattle.guest_steps.specs.Guest.{max_request, outstanding, guest_of, state_of};
+ghost use Rattle.guest_steps.specs.Calls.{found, wrote_on, message_of, readied, left};
+ghost use Rattle.guest_steps.specs.Inner.{readiness_of};
 
-use guest_steps::{Ask, Finding, IDLE, NUMBERS, OUTSTANDING, PHASE, Readiness};
+use guest_messages::WriteRefusal;
+use guest_steps::{Ask, Guest, IDLE, OUTSTANDING, Progress, Refusal};
 
 // What a start finds: beside what every call finds, no request may be outstanding.
-pub fn ready(page: &[u8], numbers: &[u64; NUMBERS]) -> Readiness
-    requires { (get_or numbers.now 3 0 < 2 ^ 32) × (get_or numbers.now 5 0 < 2 ^ 32) }
-    ensures { Readies numbers.now page.now result }
+#[tactic(auto, unfolding(guest_steps::specs::Calls::readied))]
+pub fn ready(guest: &Guest, page: &[u8]) -> Result<u32, Refusal>
+    requires { (guest.now.outgoing.prod < 2 ^ 32) × (guest.now.incoming.cons < 2 ^ 32) }
+    ensures value { let g = state_of guest.now in readiness_of result ≡ readied (found g page.now) g }
+    ensures within { IfOk result (λ room. (length page.now ≡ page_size) × (room ≤ area_size)) }
 {
-    let finding = guest_steps::find(page, numbers);
-    match finding {
-        Finding::Hindered(refusal) => Readiness::Stopped(refusal),
-        Finding::Counts(room, _) => {
-            if numbers[PHASE] == IDLE {
-                Readiness::Room(room)
-            } else {
-                Readiness::Stopped(guest_steps::Refusal::Outstanding)
-            }
-        }
+    let counts = guest.find(page)?;
+    if guest.phase != IDLE {
+        return Err(Refusal::Outstanding);
     }
+    Ok(counts.room)
 }
 
-// Puts the message of what is asked for into its place.
-pub fn write_request(
-    ask: Ask,
-    key: &[u8],
-    entries: &[u64],
-    place: &mut [u8],
-) -> guest_messages::Written
-    ensures { after result place.new ≡ written (message_of ask key.now entries.now) place.old }
+// Puts the message of what is asked for into its place, and answers its length.
+pub fn write_request(ask: Ask, place: &mut [u8]) -> Result<usize, WriteRefusal>
+    ensures { after result place.new ≡ written (message_of ask.entry) place.old }
 {
     match ask {
         Ask::GetFlags => guest_messages::write_get_flags(place),
         Ask::SetFlags(flags) => guest_messages::write_set_flags(place, flags),
-        Ask::SetKey => guest_messages::write_set_key(place, key),
-        Ask::SetMapping => guest_messages::write_set_mapping(place, entries),
+        Ask::SetKey(key) => guest_messages::write_set_key(place, key),
+        Ask::SetMapping(entries) => guest_messages::write_set_mapping(place, entries),
     }
 }
 
-// Makes the request of n octets, which is in its place, the outstanding one, and writes as much of it as fits; answers whether
-// octets are still owed.
-pub fn begin(
-    n: usize,
-    numbers: &mut [u64; NUMBERS],
-    request: &[u8; guest_steps::MAX_REQUEST],
-    room: u32,
-    page: &mut [u8],
-) -> bool
-    requires page_len { (length page.old ≡ page_size) × (room ≤ area_size) × (n ≤ max_request) × (length request.now ≡ max_request) }
-    requires numbers_bound { (get_or numbers.old 3 0 < 2 ^ 32) × (get_or numbers.old 5 0 < 2 ^ 32) }
-    ensures { Begins n numbers.old request.now page.old room result numbers.new
-        page.new }
+// Makes the request of n octets, which is in its place, the outstanding one, and writes as much of it as fits.
+pub fn begin(guest: &mut Guest, n: usize, room: u32, page: &mut [u8]) -> Progress
+    requires page_len { (length page.old ≡ page_size) × (room ≤ area_size) × (n ≤ max_request) }
+    requires counts_fit { (guest.old.outgoing.prod < 2 ^ 32) × (guest.old.incoming.cons < 2 ^ 32) }
+    ensures { let g = state_of guest.old in left (Ok result) (state_of guest.new) page.new
+        ≡ wrote_on (guest_of outstanding g.request n 0 g.req_prod g.header g.payload g.taken g.rsp_cons) page.old room }
 {
-    let held = &mut numbers[..];
-    held[PHASE] = OUTSTANDING;
-    held[guest_steps::LENGTH] = n as u64;
-    held[guest_steps::WRITTEN] = 0;
-    guest_writes::write_on(numbers, request, room, page)
+    guest.phase = OUTSTANDING;
+    guest.outgoing.length = n as u64;
+    guest.outgoing.written = 0;
+    guest_writes::write_on(guest, room, page)
 }

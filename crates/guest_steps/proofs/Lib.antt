@@ -1,3 +1,2 @@
--- What the stages of a call did, and how it is stored.
-pub mod Stored
+-- What a call finds.
 pub mod Finds

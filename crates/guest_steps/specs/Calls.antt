@@ -1,5 +1,5 @@
 -- The calls of the guest's end, a start for each request and the event: the answer, the state and every octet of the page.
-use Rattle.std.specs.Prelude.{◌++◌, ◌&&◌, ◌||◌, ◌+◌, ◌-◌}
+use Rattle.std.specs.Prelude.{◌++◌, ◌&&◌, ◌||◌, ◌+◌, ◌-◌, Result}
 use Rattle.octets.specs.Prelude.{List, Bool, not, cond, ℕ, length, take, drop, eqb, leb}
 use Rattle.octets.specs.Outcome.{Outcome, value, refused}
 use Rattle.messages.specs.Wire.{header_size, field_size, type_in, size_in}
@@ -13,7 +13,8 @@ use Rattle.guest_messages.specs.Reader.{Reading, read_ack}
 use Rattle.guest_messages.specs.Writer.{get_flags_message, set_flags_message, set_key_message, set_mapping_message}
 use Rattle.guest_steps.specs.Guest.{idle, outstanding, failed, guest_of, outgoing, incoming, with_outgoing, with_incoming, owes, Told, number}
 use Rattle.guest_steps.specs.Guest.{acked, pending, request_owed, told_of, GuestState}
-use Rattle.guest_steps.specs.declared.GuestAnswer.{GuestAnswer}
+use Rattle.guest_steps.specs.declared.Progress.{Progress}
+use Rattle.guest_steps.specs.declared.Refusal.{Refusal}
 use Rattle.guest_steps.specs.declared.Ask.{Ask}
 use Rattle.guest_steps.specs.declared.Ask.TheVariants.{GetFlags, SetFlags, SetKey, SetMapping}
 
@@ -66,11 +67,11 @@ wrote_on g page room =
     answered_with (number (cond (owes next) request_owed pending)) next (put requests_at page o.prod (sent_octets o n))
 
 -- the message of what a driver asks for, or the writer's refusal of it
-abbrev pub message_of : Ask → List ℕ → List ℕ → Outcome (List ℕ)
-message_of GetFlags key entries = get_flags_message
-message_of (SetFlags flags) key entries = set_flags_message flags
-message_of SetKey key entries = set_key_message key
-message_of SetMapping key entries = set_mapping_message entries
+abbrev pub message_of : Ask → Outcome (List ℕ)
+message_of GetFlags = get_flags_message
+message_of (SetFlags flags) = set_flags_message flags
+message_of (SetKey key) = set_key_message key.now
+message_of (SetMapping entries) = set_mapping_message entries.now
 
 -- the guest with a request outstanding, of which nothing is written
 abbrev pub begun : GuestState → List ℕ → GuestState
@@ -143,7 +144,7 @@ abbrev pub event_of : GuestState → List ℕ → After
 event_of g page = event_by (found g page) g page
 
 -- what a call answered and left, by its answer or, where that has no values, by its number
-abbrev pub left : GuestAnswer → GuestState → List ℕ → After
+abbrev pub left : Result Progress Refusal → GuestState → List ℕ → After
 left r g page = record { answer = told_of r; state = g; page = page }
 
 abbrev pub left_by : ℕ → GuestState → List ℕ → After

@@ -1,18 +1,18 @@
 -- The guest's end of the ring: its state, at setup and from then on, and what its calls answer.
-use Rattle.std.specs.Prelude.{◌≡◌, ◌≤◌, ◌<◌}
-use Rattle.octets.specs.Prelude.{List, Bool, ℕ, get_or, replicate, ltb}
-use Rattle.messages.specs.Wire.{header_size, success}
+use Rattle.std.specs.Prelude.{◌≡◌, ◌≤◌, ◌<◌, Result, Ok, Err}
+use Rattle.octets.specs.Prelude.{List, Bool, ℕ, replicate, ltb}
+use Rattle.messages.specs.Wire.{header_size}
 use Rattle.page.specs.Refusals.{page_wrong, requests_wrong, responses_wrong}
 use Rattle.ring.specs.Reading.{incoming_of, GoodIncoming, Incoming}
 use Rattle.ring.specs.Writing.{outgoing_of, owed, GoodOutgoing, Outgoing}
 use Rattle.guest_messages.specs.Refusals.{not_an_ack}
 use Rattle.guest_steps.specs.Refusals.{request_outstanding}
-use Rattle.guest_messages.specs.Reader.{Reading, status, status_and_flags}
+use Rattle.guest_messages.specs.Reader.{Reading, reading_in}
 use Rattle.guest_steps.specs.declared.Guest.{Guest}
 use Rattle.guest_steps.specs.declared.Refusal.{Refusal}
 use Rattle.guest_steps.specs.declared.Refusal.TheVariants.{PageLength, RequestCount, ResponseCount, AckRefused, Outstanding}
-use Rattle.guest_steps.specs.declared.GuestAnswer.{GuestAnswer}
-use Rattle.guest_steps.specs.declared.GuestAnswer.TheVariants.{Pending, RequestOwed, AckedStatus, AckedFlags, Refused}
+use Rattle.guest_steps.specs.declared.Progress.{Progress}
+use Rattle.guest_steps.specs.declared.Progress.TheVariants.{Pending, RequestOwed, Acked}
 
 -- the most octets of a request, and of an ack's payload
 abbrev pub max_request : ℕ
@@ -59,16 +59,10 @@ guest_of phase request size written req_prod header payload taken rsp_cons =
       rsp_cons = rsp_cons;
     }
 
--- how it is stored: six numbers in one list, and three arrays of octets. The numbers are, in this order: phase, octets of the
--- request, how many of them are written, own req_prod, octets taken of the ack, own rsp_cons
-abbrev pub guest_in : List ℕ → List ℕ → List ℕ → List ℕ → GuestState
-guest_in numbers request header payload =
-    guest_of (get_or numbers 0 0) request (get_or numbers 1 0) (get_or numbers 2 0) (get_or numbers 3 0) header payload (get_or numbers 4 0)
-    (get_or numbers 5 0)
-
 -- the state that the struct of a guest holds
 abbrev pub state_of : Guest → GuestState
-state_of g = guest_in g.numbers g.request g.header g.payload
+state_of g =
+    guest_of g.phase g.request g.outgoing.length g.outgoing.written g.outgoing.prod g.header g.payload g.incoming.taken g.incoming.cons
 
 -- its two sides: the request that it writes, with its own req_prod, and the ack that it reads, with its own rsp_cons
 abbrev pub outgoing : GuestState → Outgoing
@@ -131,9 +125,14 @@ refusal_number ResponseCount = responses_wrong
 refusal_number AckRefused = not_an_ack
 refusal_number Outstanding = request_outstanding
 
-abbrev pub told_of : GuestAnswer → Told
-told_of Pending = number pending
-told_of RequestOwed = number request_owed
-told_of (AckedStatus st) = acked (status st)
-told_of (AckedFlags flags) = acked (status_and_flags success flags)
-told_of (Refused r) = number (refusal_number r)
+abbrev pub told_by : Progress → Told
+told_by Pending = number pending
+told_by RequestOwed = number request_owed
+told_by (Acked ack) = acked (reading_in ack)
+
+abbrev pub progress_number : Progress → ℕ
+progress_number p = told_number (told_by p)
+
+abbrev pub told_of : Result Progress Refusal → Told
+told_of (Ok p) = told_by p
+told_of (Err r) = number (refusal_number r)

@@ -1,63 +1,56 @@
-// The guest's end of the ring: how its state is stored, what its calls answer, and what a call finds on the page.
+// The guest's end of the ring: its state as it is stored, what its calls answer, and what a call finds on the page.
 #![tactic(auto)]
+
+ghost use Rattle.std.specs.Prelude.{◌≡◌};
+ghost use Rattle.guest_steps.specs.Guest.{refusal_number, progress_number};
 
 mod calls;
 
-pub use calls::find;
+use guest_messages::{AckRead, NOT_AN_ACK};
+use messages::HEADER;
+use page::{PAGE_WRONG, REQUESTS_WRONG, RESPONSES_WRONG};
+use ring::{Receiving, Sending};
 
 // The refusal of a request begun while one is outstanding.
-pub const REQUEST_OUTSTANDING: u32 = 13;
+const REQUEST_OUTSTANDING: u32 = 13;
 
 // The most octets of a request, and of an ack's payload.
 pub const MAX_REQUEST: usize = 1032;
 
 pub const MAX_ACK_PAYLOAD: usize = 16;
 
-// The phases of a guest: no request is outstanding; one is; an ack was refused, which only a new setup ends.
+// The phases of a guest: no request is outstanding; one is; an ack was refused, which only a new setup ends. C reads the phase,
+// so it is a number.
 pub const IDLE: u64 = 0;
 
 pub const OUTSTANDING: u64 = 1;
 
 pub const FAILED: u64 = 2;
 
-// The numbers of a guest stand in one array, as those of an interface do. Their places: the phase; the octets of the request,
-// how many of them are written, and the own req_prod; the octets taken of the ack, and the own rsp_cons.
-pub const PHASE: usize = 0;
-
-pub const LENGTH: usize = 1;
-
-pub const WRITTEN: usize = 2;
-
-pub const OWN_REQ_PROD: usize = 3;
-
-pub const TAKEN: usize = 4;
-
-pub const OWN_RSP_CONS: usize = 5;
-
-pub const NUMBERS: usize = 6;
-
-// The guest's end of a ring: its numbers; the present request, or the last one; and the ack. There is no padding.
+// The guest's end of a ring: the phase; the present request, or the last one, with the own req_prod; and the ack, with the own
+// rsp_cons. There is no padding: C has the fields one after the other.
 #[repr(C)]
 #[derive(Drop)]
 pub struct Guest {
-    pub numbers: [u64; NUMBERS],
+    pub phase: u64,
+    pub outgoing: Sending,
+    pub incoming: Receiving,
     pub request: [u8; MAX_REQUEST],
-    pub header: [u8; messages::HEADER],
+    pub header: [u8; HEADER],
     pub payload: [u8; MAX_ACK_PAYLOAD],
 }
 
-// What a driver asks for: which flags the host supports; these flags of hash types to use; a key; or a mapping. A key and the
-// entries of a mapping are lent beside it.
-#[derive(Drop)]
-pub enum Ask {
+// What a driver asks for: which flags the host supports; that it use these flags of hash types, this key, or this mapping.
+#[derive(Clone, Copy)]
+pub enum Ask<'a> {
     GetFlags,
     SetFlags(u64),
-    SetKey,
-    SetMapping,
+    SetKey(&'a [u8]),
+    SetMapping(&'a [u64]),
 }
 
 // Why a call of the guest's end is refused.
-#[derive(Drop)]
+#[derive(Clone, Copy, Debug, PartialEq, Eq)]
 pub enum Refusal {
     // The page is not 4,096 octets.
     PageLength,
@@ -71,38 +64,46 @@ pub enum Refusal {
     Outstanding,
 }
 
-#[derive(Drop)]
-pub enum GuestAnswer {
+impl From<Refusal> for u32 {
+    ghost from_gives = { λ refusal n. n ≡ refusal_number refusal };
+
+    fn from(refusal: Refusal) -> u32 {
+        match refusal {
+            Refusal::PageLength => PAGE_WRONG,
+            Refusal::RequestCount => REQUESTS_WRONG,
+            Refusal::ResponseCount => RESPONSES_WRONG,
+            Refusal::AckRefused => NOT_AN_ACK,
+            Refusal::Outstanding => REQUEST_OUTSTANDING,
+        }
+    }
+}
+
+// How far the request has come at a call that is not refused.
+#[derive(Clone, Copy, Debug, PartialEq, Eq)]
+pub enum Progress {
     // No ack yet, or no request.
     Pending,
     // Octets of the request are still owed.
     RequestOwed,
-    // The ack is here: a status alone.
-    AckedStatus(u8),
-    // The ack is here: status 0, and the flags that the host supports.
-    AckedFlags(u8),
-    Refused(Refusal),
+    // The ack is here, and says this.
+    Acked(AckRead),
 }
 
-// What a call finds: the room in the request area and the octets unread in the response area, or why it is refused.
-#[derive(Drop)]
-pub enum Finding {
-    Counts(u32, u32),
-    Hindered(Refusal),
+impl From<Progress> for u32 {
+    ghost from_gives = { λ progress n. n ≡ progress_number progress };
+
+    fn from(progress: Progress) -> u32 {
+        match progress {
+            Progress::Pending => 0,
+            Progress::Acked(_) => 1,
+            Progress::RequestOwed => 2,
+        }
+    }
 }
 
-// What a start finds: the room in the request area, or why it is refused.
-#[derive(Drop)]
-pub enum Readiness {
-    Room(u32),
-    Stopped(Refusal),
-}
-
-// What is known of an ack: it is not whole, or what the reader says of it.
-#[derive(Drop)]
-pub enum Sight {
-    Partly,
-    Status(u8),
-    Flags(u8),
-    Refused,
+// What a call finds on the page: the room in the request area, and the octets unread in the response area.
+#[derive(Clone, Copy)]
+pub struct Counts {
+    pub room: u32,
+    pub unread: u32,
 }

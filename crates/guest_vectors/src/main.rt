@@ -26,71 +26,56 @@ const PATCH: u8 = 9;
 
 const FILL: u8 = 10;
 
-// Both ends of the ring.
-#[derive(Drop)]
-struct Ends {
-    guest: Guest,
-    interface: Interface,
-}
-
 fn main(rt: HostRuntime) {
     let mut buffer = io::large_buffer();
     let mut page = [0u8; case_tools::BUFFER];
-    let mut ends = Ends {
-        guest: new_guest(),
-        interface: host_cases::first_interface(),
-    };
+    let mut guest = new_guest();
+    let mut interface = host_cases::first_interface();
     for part in 0..cases::PARTS {
         // A file that is not there has no case.
         let n = cases::load_part(&rt, part, &mut buffer);
-        ends = run(ends, &mut page, &buffer[..n]);
+        interface = run(&mut guest, interface, &mut page, &buffer[..n]);
     }
 }
 
 // Runs the cases of one file on the ends and the page that those before it left.
-fn run(first: Ends, page: &mut [u8], cases: &[u8]) -> Ends
-    requires { GoodGuest (guest_of first.guest) × Good (state_of first.interface) × (length page.old ≡ 4160) }
-    ensures { GoodGuest (guest_of result.guest) × Good (state_of result.interface) }
+fn run(guest: &mut Guest, first: Interface, page: &mut [u8], cases: &[u8]) -> Interface
+    requires { GoodGuest (guest_of guest.old) × Good (state_of first) × (length page.old ≡ 4160) }
+    ensures { GoodGuest (guest_of guest.new) × Good (state_of result) }
 {
-    let mut guest = first.guest;
-    let mut interface = first.interface;
+    let mut interface = first;
     let mut at: usize = 0;
     while at < cases.len() {
         let taken = cases::take_case(cases, at);
-        let kind = taken.kind;
         let start = taken.start;
         let end = taken.end;
         let body = &cases[start..end];
-        guest = answer_guest(guest, page, kind, body);
-        interface = answer_host(interface, page, kind, body);
+        call_guest(guest, page, taken.kind, body);
+        interface = answer_host(interface, page, taken.kind, body);
         at = end;
     }
-    Ends { guest, interface }
+    interface
 }
 
-fn answer_guest(g: Guest, page: &mut [u8], kind: u8, body: &[u8]) -> Guest
-    requires { GoodGuest (guest_of g) × (length page.old ≡ 4160) }
-    ensures { GoodGuest (guest_of result) }
+fn call_guest(guest: &mut Guest, page: &mut [u8], kind: u8, body: &[u8])
+    requires { GoodGuest (guest_of guest.old) × (length page.old ≡ 4160) }
+    ensures { GoodGuest (guest_of guest.new) }
 {
     match kind {
         GUEST_SET_UP => {
             case_tools::print_word(b"guest set up\n");
-            new_guest()
+            *guest = new_guest();
         }
-        guest_cases::START_GET_FLAGS..=guest_cases::EVENT => guest_cases::call(g, page, kind, body),
+        guest_cases::START_GET_FLAGS..=guest_cases::EVENT => {
+            guest_cases::call(guest, page, kind, body);
+        }
         COUNTS => {
             patch(page, body);
-            guest_cases::recount(g, &page[..])
+            guest_cases::recount(guest, &page[..]);
         }
-        PATCH => {
-            patch(page, body);
-            g
-        }
-        FILL => {
-            case_tools::fill(page, body);
-            g
-        }
-        _ => g,
+        PATCH => patch(page, body),
+        FILL => case_tools::fill(page, body),
+        _ => {}
     }
 }
 

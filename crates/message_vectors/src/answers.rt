@@ -1,7 +1,7 @@
 // The lines that the program prints.
 use crate::Settings;
 use case_tools::{digest, print_form, print_number};
-use guest_messages::{AckAnswer, Written};
+use guest_messages::{AckRead, NotAnAck, WriteRefusal};
 
 // Where printed text goes.
 const STDOUT: i32 = 1;
@@ -31,21 +31,19 @@ fn print_octets(octets: &[u8]) {
 }
 
 // The answer, and a digest of the whole buffer.
-pub(crate) fn print_written(written: Written, buffer: &[u8]) {
+pub(crate) fn print_written(written: Result<usize, WriteRefusal>, buffer: &[u8]) {
     match written {
-        Written::Length(n) => print_number(b"length ", n as u64),
-        Written::KeyLength => print_number(b"refused ", toeplitz::KEY_LENGTH_WRONG as u64),
-        Written::Value => print_number(b"refused ", guest_messages::VALUE_NOT_LISTED as u64),
-        Written::Buffer => print_number(b"refused ", guest_messages::BUFFER_TOO_SHORT as u64),
+        Ok(length) => print_number(b"length ", length as u64),
+        Err(refusal) => print_number(b"refused ", u32::from(refusal) as u64),
     }
     print_form(b" buffer $\n", &[digest(buffer)]);
 }
 
-pub(crate) fn print_ack_answer(answer: AckAnswer) {
+pub(crate) fn print_ack_answer(answer: Result<AckRead, NotAnAck>) {
     match answer {
-        AckAnswer::Status(status) => print_number(b"status ", status as u64),
-        AckAnswer::Flags(flags) => print_number(b"status 0 flags ", flags as u64),
-        AckAnswer::NotAnAck => print_number(b"refused ", guest_messages::NOT_AN_ACK as u64),
+        Ok(AckRead::Status(status)) => print_number(b"status ", status as u64),
+        Ok(AckRead::Flags(flags)) => print_number(b"status 0 flags ", flags as u64),
+        Err(refusal) => print_number(b"refused ", u32::from(refusal) as u64),
     }
     case_tools::print_word(b"\n");
 }

@@ -5,7 +5,7 @@
 mod answers;
 
 use cases::print_cut;
-use guest_messages::Written;
+use guest_messages::WriteRefusal;
 use messages::{MAX_ENTRIES, MAX_PAYLOAD};
 use toeplitz::KEY_LENGTH;
 
@@ -142,7 +142,7 @@ fn write_and_print(buffer: &mut [u8], kind: u8, given: &[u8]) {
     answers::print_written(written, &buffer[..]);
 }
 
-fn write_into(buffer: &mut [u8], kind: u8, given: &[u8]) -> Written {
+fn write_into(buffer: &mut [u8], kind: u8, given: &[u8]) -> Result<usize, WriteRefusal> {
     match kind {
         WRITE_GET_FLAGS => guest_messages::write_get_flags(buffer),
         WRITE_SET_KEY => guest_messages::write_set_key(buffer, given),
@@ -151,17 +151,17 @@ fn write_into(buffer: &mut [u8], kind: u8, given: &[u8]) -> Written {
     }
 }
 
-fn write_flags(buffer: &mut [u8], given: &[u8]) -> Written {
+fn write_flags(buffer: &mut [u8], given: &[u8]) -> Result<usize, WriteRefusal> {
     if given.len() < 8 {
-        return Written::Value;
+        return Err(WriteRefusal::Value);
     }
     guest_messages::write_set_flags(buffer, octets::read_u64(given, 0))
 }
 
-fn write_mapping(buffer: &mut [u8], given: &[u8]) -> Written {
+fn write_mapping(buffer: &mut [u8], given: &[u8]) -> Result<usize, WriteRefusal> {
     let count = given.len() / 8;
     if count > case_tools::MAX_GIVEN {
-        return Written::Value;
+        return Err(WriteRefusal::Value);
     }
     let entries = case_tools::entries_in(given, 0, count);
     guest_messages::write_set_mapping(buffer, &entries[0..count])

@@ -5,19 +5,14 @@ ghost use Rattle.guest_steps.specs.Guest.{Good, state_of, guest_at_setup};
 ghost use Rattle.guest_steps.specs.Calls.{start_of, event_of};
 ghost use Rattle.guest_numbers.specs.Answers.{Leaves, status_of_told, flags_of_told};
 
-use guest_steps::Guest;
+use guest_steps::{Ask, Guest};
 
 // Sets up the guest: no request, and both own counts 0.
 #[unsafe(no_mangle)]
 pub extern "C" fn zwerfen_guest_set_up(guest: &mut Guest)
     ensures { state_of guest.new ≡ guest_at_setup }
 {
-    return frontend::set_up(
-        &mut guest.numbers,
-        &mut guest.request,
-        &mut guest.header,
-        &mut guest.payload,
-    );
+    return frontend::set_up(guest);
 }
 
 // Starts to ask which flags the host supports.
@@ -28,13 +23,7 @@ pub extern "C" fn zwerfen_guest_start_get_flags(guest: &mut Guest, page: &mut [u
         page.new
         × Good (state_of guest.new) }
 {
-    guest_calls::start_get_flags(
-        &mut guest.numbers,
-        &mut guest.request,
-        &mut guest.header,
-        &mut guest.payload,
-        page,
-    )
+    guest_calls::start(guest, page, Ask::GetFlags)
 }
 
 // Starts to set the flags of the hash types to use.
@@ -49,14 +38,7 @@ pub extern "C" fn zwerfen_guest_start_set_flags(
         page.new
         × Good (state_of guest.new) }
 {
-    guest_calls::start_set_flags(
-        &mut guest.numbers,
-        &mut guest.request,
-        &mut guest.header,
-        &mut guest.payload,
-        page,
-        flags,
-    )
+    guest_calls::start(guest, page, Ask::SetFlags(flags))
 }
 
 // Starts to set the key, octet for octet.
@@ -68,14 +50,7 @@ pub extern "C" fn zwerfen_guest_start_set_key(guest: &mut Guest, page: &mut [u8]
         page.new
         × Good (state_of guest.new) }
 {
-    guest_calls::start_set_key(
-        &mut guest.numbers,
-        &mut guest.request,
-        &mut guest.header,
-        &mut guest.payload,
-        page,
-        key,
-    )
+    guest_calls::start(guest, page, Ask::SetKey(key))
 }
 
 // Starts to set the mapping: the queue of each entry.
@@ -91,14 +66,7 @@ pub extern "C" fn zwerfen_guest_start_set_mapping(
         page.new
         × Good (state_of guest.new) }
 {
-    guest_calls::start_set_mapping(
-        &mut guest.numbers,
-        &mut guest.request,
-        &mut guest.header,
-        &mut guest.payload,
-        page,
-        entries,
-    )
+    guest_calls::start(guest, page, Ask::SetMapping(entries))
 }
 
 // One event of the guest on its page.
@@ -115,13 +83,5 @@ pub extern "C" fn zwerfen_guest_event(
     ensures status_after { status.new ≡ status_of_told (event_of (state_of guest.old) page.old).answer status.old }
     ensures flags_after { flags.new ≡ flags_of_told (event_of (state_of guest.old) page.old).answer flags.old }
 {
-    guest_calls::guest_event(
-        &mut guest.numbers,
-        &mut guest.request,
-        &mut guest.header,
-        &mut guest.payload,
-        page,
-        status,
-        flags,
-    )
+    guest_calls::event(guest, page, status, flags)
 }

@@ -4,4 +4,4 @@ use Rattle.interface.specs.States.{Good, state_of}
 use Rattle.guest_vectors.proofs.main.Given as goal
 
 abbrev pub invariant-loop-part : goal.invariant-loop-part
-invariant-loop-part l = GoodGuest (guest_of l.ends.guest) × Good (state_of l.ends.interface)
+invariant-loop-part l = GoodGuest (guest_of l.guest) × Good (state_of l.interface)

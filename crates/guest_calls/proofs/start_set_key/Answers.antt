@@ -1,6 +1,0 @@
--- `guest_calls::start_set_key` meets its contract: it is the start that it asks for.
-use Rattle.guest_numbers.proofs.Driving.{tells-number}
-use Rattle.guest_calls.proofs.start_set_key.Goals as goal
-
-pub returns : goal.returns
-returns c = (tells-number _ _ _ _ c.start.ensures.0, c.start.ensures.1)

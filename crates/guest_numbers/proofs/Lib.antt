@@ -1,2 +1,0 @@
--- What a call of the guest's end tells by number.
-pub mod Driving
