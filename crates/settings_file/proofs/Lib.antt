@@ -1,2 +1,3 @@
 -- The laws of `settings_file`.
 pub mod Loads
+pub mod Firsts

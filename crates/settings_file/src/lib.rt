@@ -82,6 +82,7 @@ fn blank() -> Interface {
 }
 
 // Carries out the messages one after the other, up to the first that is refused.
+#[tactic(auto, using(crate::proofs::Loads::from_empty))]
 fn carry_out_all(i: &mut Interface, messages: &[u8]) -> Result<(), SettingsRefusal>
     requires { Good (settings_in i.old) }
     ensures settings { left_outcome result (settings_in i.new) ≡ settings_from (settings_in i.old) messages.now }
@@ -102,7 +103,9 @@ fn carry_out_first<'a>(i: &mut Interface, octets: &'a [u8]) -> Result<&'a [u8], 
     ensures wrong { OnErr result (settings_from (settings_in i.old) octets.now ≡ refused settings_wrong) }
     ensures refusal { IfErr result (λ e. e ≡ SettingsRefusal.Message) }
 {
-    let (header, rest) = octets.split_first_chunk::<HEADER>().ok_or(SettingsRefusal::Message)?;
+    let Some((header, rest)) = octets.split_first_chunk::<HEADER>() else {
+        return Err(SettingsRefusal::Message);
+    };
     let size = octets::read_u32(header, SIZE_AT) as usize;
     if rest.len() < size {
         return Err(SettingsRefusal::Message);

@@ -1,33 +1,45 @@
-use Rattle.std.proofs.Common.{rules, ◌≡◌, ◌<◌, IfOk, IfErr, OnErr, ℕ, ◌+◌, ◌-◌, ◌*◌, ◌≤◌, ◌/◌, ◌%◌, Bool, true, false, nat_eq, nat_lt, List, [], ◌∷◌, ◌++◌, slice_index_or, slice_set, bit_and, bit_or, Fits, w8, w32, w64, Bor, MutBor}
-use Rattle.octets.specs.Prelude.{length}
-use Rattle.octets.specs.Outcome.{refused}
-use Rattle.messages.specs.Settings.{Good}
-use Rattle.interface.specs.States.{settings_in}
-use Rattle.settings_file.specs.Loading.{settings_wrong, settings_refusal_number, settings_from, settings_outcome, settings_outcome_of}
-use Rattle.settings_file.specs.Inner.{GoesOn, Keeps, left_outcome}
-use Rattle.settings_file.specs.declared.SettingsRefusal.TheVariants.{QueueCount}
+-- `settings_file::carry_out_first` meets its contract: a message that is cut short or not acked with success is refused.
+use Rattle.octets.specs.Prelude.{refl, ◌+◌, arith, length, lt-leb}
+use Rattle.messages.specs.Wire.{size_in}
+use Rattle.ring.specs.Reading.{message_length}
+use Rattle.settings_file.proofs.Loads.{from_cut}
+use Rattle.settings_file.proofs.Firsts.{first-cut, good-left, first-refused, first-done}
 use Rattle.settings_file.proofs.carry_out_first.Goals as goal
 
--- src/lib.rt:105:26
-pub returns-in_err-header-clause-wrong : goal.returns-in_err-header-clause-wrong
-returns-in_err-header-clause-wrong c = ?
+pub returns-in_default-clause-wrong : goal.returns-in_default-clause-wrong
+returns-in_default-clause-wrong c =
+    let xs = c.args.octets.now in
+    from_cut _ xs c.requires.1 (lt-leb (message_length xs) (length xs) (omega (arith, c.in_default.ensures.cases)))
 
--- src/lib.rt:108:9
 pub returns-then-rest-size-clause-wrong : goal.returns-then-rest-size-clause-wrong
-returns-then-rest-size-clause-wrong c = ?
+returns-then-rest-size-clause-wrong c =
+    let parts = c.in-Some.ensures.cases in
+    first-cut c.args.octets.now _ c.in-Some.rest.now _ parts.0 parts.1 c.read_u32-size.ensures _ c.requires.1 c.if-rest-size.true
 
--- src/lib.rt:115:9
 pub returns-then-read_u64-clause-good : goal.returns-then-read_u64-clause-good
-returns-then-read_u64-clause-good c = ?
+returns-then-read_u64-clause-good c =
+    let parts = c.in-Some.ensures.cases in
+    let kept = rw c.split_at.ensures.front at c.keep.ensures in
+    good-left c.args.octets.now _ c.in-Some.rest.now _ parts.0 parts.1 c.read_u32-size.ensures _ (omega (arith, parts.2)) c.if-rest-size.false refl kept
+    c.requires.0 _ c.carry_out.ensures
 
--- src/lib.rt:115:9
 pub returns-then-read_u64-clause-wrong : goal.returns-then-read_u64-clause-wrong
-returns-then-read_u64-clause-wrong c = ?
+returns-then-read_u64-clause-wrong c =
+    let parts = c.in-Some.ensures.cases in
+    let kept = rw c.split_at.ensures.front at c.keep.ensures in
+    first-refused c.args.octets.now _ c.in-Some.rest.now _ parts.0 parts.1 c.read_u32-size.ensures _ (omega (arith, parts.2)) c.if-rest-size.false refl kept
+    c.requires.0 _ c.carry_out.ensures (rw c.read_u64.ensures at c.if-read_u64.true)
 
--- src/lib.rt:98:1
 pub returns-clause-good : goal.returns-clause-good
-returns-clause-good c = ?
+returns-clause-good c =
+    let parts = c.in-Some.ensures.cases in
+    let kept = rw c.split_at.ensures.front at c.keep.ensures in
+    good-left c.args.octets.now _ c.in-Some.rest.now _ parts.0 parts.1 c.read_u32-size.ensures _ (omega (arith, parts.2)) c.if-rest-size.false refl kept
+    c.requires.0 _ c.carry_out.ensures
 
--- src/lib.rt:98:1
 pub returns-clause-next : goal.returns-clause-next
-returns-clause-next c = ?
+returns-clause-next c =
+    let parts = c.in-Some.ensures.cases in
+    let kept = rw c.split_at.ensures.front at c.keep.ensures in
+    rw c.split_at.ensures.back (first-done c.args.octets.now _ c.in-Some.rest.now _ parts.0 parts.1 c.read_u32-size.ensures _ (omega (arith, parts.2))
+    c.if-rest-size.false refl kept c.requires.0 _ c.carry_out.ensures (rw c.read_u64.ensures at c.if-read_u64.false))
