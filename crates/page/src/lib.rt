@@ -10,11 +10,11 @@ mod counts;
 pub use counts::{unread_by_other, unread_here, write_counts};
 
 // The numbers of the refusals of a page.
-const PAGE_WRONG: u32 = 3;
+pub const PAGE_WRONG: u32 = 3;
 
-const REQUESTS_WRONG: u32 = 4;
+pub const REQUESTS_WRONG: u32 = 4;
 
-const RESPONSES_WRONG: u32 = 5;
+pub const RESPONSES_WRONG: u32 = 5;
 
 // Octets of the page, and of each area.
 pub const PAGE: usize = 4096;
