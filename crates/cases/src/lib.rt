@@ -149,3 +149,32 @@ pub fn keep(buffer: &mut [u8], body: &[u8]) -> usize
     octets::copy(&mut buffer[0..n], body);
     n
 }
+
+// What a program needs again of a case: the next case may be in another file, so it is copied. There is no heap here, so the
+// octets stand in an array, with their number beside it.
+#[derive(Clone, Copy)]
+pub struct Kept<const N: usize> {
+    octets: [u8; N],
+    length: usize,
+    ghost inside: { length ≤ N },
+}
+
+impl<const N: usize> Kept<N> {
+    pub fn none() -> Self {
+        Kept {
+            octets: [0; N],
+            length: 0,
+        }
+    }
+
+    // Keeps the body of a case in place of what was kept; nothing where it does not fit.
+    pub fn keep(&mut self, body: &[u8]) {
+        self.length = keep(&mut self.octets, body);
+    }
+
+    // The octets that are kept.
+    pub fn octets(&self) -> &[u8] {
+        let octets = &self.octets[..];
+        &octets[..self.length]
+    }
+}
