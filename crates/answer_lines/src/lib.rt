@@ -9,7 +9,7 @@ ghost use Rattle.text.specs.Text.{capacity, longest_line, longest_type_line, Add
 ghost use Rattle.text.specs.Lines.{hash_line, verdict_line, hash_text, two_way_text};
 
 use text::Text;
-use toeplitz::{HashAnswer, INPUT_TOO_LONG, KEY_LENGTH, KEY_LENGTH_WRONG, TwoWayAnswer};
+use toeplitz::{HashRefusal, KEY_LENGTH, TwoWayRefusal};
 
 // What the hash program prints for the octets that it read: 40 key octets, then the input.
 #[tactic(auto, using(crate::proofs::Keys::key_part, crate::proofs::Keys::input_part))]
@@ -27,7 +27,7 @@ pub fn two_way_text(key: &[u8]) -> Text
 {
     let mut text = Text::new();
     if key.len() != KEY_LENGTH {
-        text.push_refusal_line(KEY_LENGTH_WRONG);
+        text.push_refusal_line(u32::from(TwoWayRefusal::KeyLength));
         return text;
     }
     push_type_line(&mut text, b"ipv4 ", directions::two_way(key, 0));
@@ -38,7 +38,7 @@ pub fn two_way_text(key: &[u8]) -> Text
 }
 
 // The line of one answer.
-pub fn hash_line(answer: HashAnswer) -> Text
+pub fn hash_line(answer: Result<u32, HashRefusal>) -> Text
     ensures { Prints result (hash_line (hash_outcome_of answer)) }
 {
     let mut text = Text::new();
@@ -46,7 +46,7 @@ pub fn hash_line(answer: HashAnswer) -> Text
     text
 }
 
-pub fn verdict_line(answer: TwoWayAnswer) -> Text
+pub fn verdict_line(answer: Result<Option<usize>, TwoWayRefusal>) -> Text
     ensures { Prints result (verdict_line (two_way_outcome_of answer)) }
 {
     let mut text = Text::new();
@@ -54,23 +54,22 @@ pub fn verdict_line(answer: TwoWayAnswer) -> Text
     text
 }
 
-pub fn push_hash_line(text: &mut Text, answer: HashAnswer)
+pub fn push_hash_line(text: &mut Text, answer: Result<u32, HashRefusal>)
     requires { length text.old + longest_line ≤ capacity }
     ensures adds { Adds text.old (hash_line (hash_outcome_of answer)) text.new }
     ensures length_bound { length text.new ≤ length text.old + longest_line }
 {
     match answer {
-        HashAnswer::Hash(hash) => {
+        Ok(hash) => {
             text.push_hex(hash);
             text.push_octets(b"\n");
         }
-        HashAnswer::KeyLength => text.push_refusal_line(KEY_LENGTH_WRONG),
-        HashAnswer::InputLength => text.push_refusal_line(INPUT_TOO_LONG),
+        Err(refusal) => text.push_refusal_line(u32::from(refusal)),
     }
 }
 
 // The name of a hash type, then the answer for it.
-pub fn push_type_line(text: &mut Text, name: &[u8], answer: TwoWayAnswer)
+pub fn push_type_line(text: &mut Text, name: &[u8], answer: Result<Option<usize>, TwoWayRefusal>)
     requires { (length name.now ≤ 9) × (length text.old + longest_type_line ≤ capacity) }
     ensures adds { Adds text.old (name.now ++ verdict_line (two_way_outcome_of answer)) text.new }
     ensures length_bound { length text.new ≤ length text.old + longest_type_line }
@@ -79,15 +78,14 @@ pub fn push_type_line(text: &mut Text, name: &[u8], answer: TwoWayAnswer)
     push_verdict_line(text, answer);
 }
 
-pub fn push_verdict_line(text: &mut Text, answer: TwoWayAnswer)
+pub fn push_verdict_line(text: &mut Text, answer: Result<Option<usize>, TwoWayRefusal>)
     requires { length text.old + longest_line ≤ capacity }
     ensures adds { Adds text.old (verdict_line (two_way_outcome_of answer)) text.new }
     ensures length_bound { length text.new ≤ length text.old + longest_line }
 {
     match answer {
-        TwoWayAnswer::Yes => text.push_octets(b"yes\n"),
-        TwoWayAnswer::No(bit) => text.push_number_line(b"no ", bit as u64),
-        TwoWayAnswer::KeyLength => text.push_refusal_line(KEY_LENGTH_WRONG),
-        TwoWayAnswer::HashType => text.push_refusal_line(toeplitz::TYPE_UNKNOWN),
+        Ok(None) => text.push_octets(b"yes\n"),
+        Ok(Some(bit)) => text.push_number_line(b"no ", bit as u64),
+        Err(refusal) => text.push_refusal_line(u32::from(refusal)),
     }
 }

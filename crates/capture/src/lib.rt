@@ -2,11 +2,20 @@
 // its length covers is looked at, and every length in it is checked before it is used.
 #![tactic(auto)]
 
+ghost use Rattle.std.specs.Prelude.{◌≡◌};
+ghost use Rattle.capture.specs.Header.{header_wrong};
+ghost use Rattle.capture.specs.Records.{record_wrong};
+
 mod numbers;
 mod reader;
 mod records;
 
 pub use reader::{Reader, record_at};
+
+// The numbers of the refusals.
+const HEADER_WRONG: u32 = 14;
+
+const RECORD_WRONG: u32 = 15;
 
 // The magic number of a capture whose times are in microseconds, and where it stands.
 pub const MAGIC: u32 = 0xA1B2C3D4;
@@ -49,3 +58,20 @@ pub struct Record {
 // A record that is cut short, or has more than 2,048 captured octets.
 #[derive(Clone, Copy, Debug, PartialEq, Eq)]
 pub struct RecordWrong;
+
+// The number of each refusal.
+impl From<HeaderWrong> for u32 {
+    ghost from_gives = { λ _ n. n ≡ header_wrong };
+
+    fn from(_refusal: HeaderWrong) -> u32 {
+        HEADER_WRONG
+    }
+}
+
+impl From<RecordWrong> for u32 {
+    ghost from_gives = { λ _ n. n ≡ record_wrong };
+
+    fn from(_refusal: RecordWrong) -> u32 {
+        RECORD_WRONG
+    }
+}

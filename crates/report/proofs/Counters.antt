@@ -1,5 +1,5 @@
 -- The counts while records are counted: with what is left they come to what all records come to.
-use Rattle.octets.specs.Prelude.{◌≡◌, refl, sym, ap, ◌∙◌, List, [], Bool, cond, ℕ, ◌+◌, ◌≤◌, ◌<◌, ◌^◌, arith, length}
+use Rattle.octets.specs.Prelude.{◌≡◌, refl, sym, ◌∙◌, List, [], Bool, cond, ℕ, ◌+◌, ◌≤◌, ◌<◌, arith, length}
 use Rattle.octets.specs.Prelude.{get_or, set, length-set, length-replicate, get_or-set_same, get_or-set_other, eqb, eqb-true, eqb-false, eq-eqb}
 use lib.ListN.{get_or-replicate}
 use Rattle.octets.specs.Outcome.{value, refused}
@@ -79,15 +79,15 @@ module _ (s : Settings) (link : Link) where
     module _ {part : Tally → ℕ} {more : ℕ → ℕ} (p : Part part more) {weight : List ℕ → ℕ} {size : List (List ℕ) → ℕ}
         (adds : Adds weight size) (same : more (length r) ≡ weight r) (c : Counted) (so : ByQueue part size all (one_more r rest) c)
       where
-      queue-room : part (tally_on c q) + weight r ≤ size all.records
-      queue-room =
-          let own = rw (eq-eqb q q refl) at (those-one adds (on q) r rest.records) in
-          omega (arith, so q below, own, those-less adds (on q) all.records)
+        queue-room : part (tally_on c q) + weight r ≤ size all.records
+        queue-room =
+            let own = rw (eq-eqb q q refl) at (those-one adds (on q) r rest.records) in
+            omega (arith, so q below, own, those-less adds (on q) all.records)
 
-      queue-next : length c.queues ≡ s.queues → ByQueue part size all rest (with_packet (choice_for s link r) (length r) c)
-      queue-next long k l =
-          let next = rw same at (counted p c.queues q k (length r) (omega (arith, below, long))) in
-          omega (arith, next, so k l, those-one adds (on k) r rest.records)
+        queue-next : length c.queues ≡ s.queues → ByQueue part size all rest (with_packet (choice_for s link r) (length r) c)
+        queue-next long k l =
+            let next = rw same at (counted p c.queues q k (length r) (omega (arith, below, long))) in
+            omega (arith, next, so k l, those-one adds (on k) r rest.records)
 
     module _ {c : Counted} (so : Counting all (one_more r rest) c) where
       -- it has room, where all records together are not too many

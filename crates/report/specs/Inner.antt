@@ -1,5 +1,5 @@
 -- What the inner functions promise: no part of the public promise.
-use Rattle.std.specs.Prelude.{◌≡◌, ◌+◌, ◌^◌, ◌<◌, slice_index_or, slice_set}
+use Rattle.std.specs.Prelude.{◌+◌, ◌^◌, ◌<◌, slice_index_or, slice_set}
 use Rattle.octets.specs.Prelude.{cond, ℕ, length, replicate}
 use Rattle.steering.specs.Steering.{Choice, queue_in}
 use Rattle.report.specs.Counting.{is_unhashed, Counted}

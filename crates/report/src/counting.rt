@@ -11,12 +11,12 @@ use steering::Steered;
 
 impl Counts {
     // Nothing counted, on so many queues.
-    pub(crate) fn none(queues: u8) -> Self
+    pub(crate) fn none(queues: usize) -> Self
         requires { queues ≤ max_queues }
         ensures { counted_of result ≡ nothing_on queues }
     {
         let mut tallies = ArrayVec::from([Tally::default(); MAX_QUEUES]);
-        tallies.truncate(queues as usize);
+        tallies.truncate(queues);
         Counts {
             queues: tallies,
             unhashed: 0,

@@ -4,13 +4,16 @@
 ghost use Rattle.std.specs.Prelude.{◌≡◌, ◌≤◌, IfOk};
 ghost use Rattle.octets.specs.Prelude.{length};
 ghost use Rattle.messages.specs.Settings.{max_queues, Good};
-ghost use Rattle.settings_file.specs.Loading.{settings_held};
-ghost use Rattle.report.specs.Reports.{max_file, report_over, report_of};
+ghost use Rattle.interface.specs.States.{settings_in};
+ghost use Rattle.report.specs.Reports.{max_file, report_over, report_on, report_of};
 
 mod counting;
+mod refusals;
 
 use arrayvec::ArrayVec;
 use capture::{HeaderWrong, Link, Reader, RecordWrong};
+use interface::Interface;
+use settings_file::SettingsRefusal;
 
 // The most octets of a file, and the most queues.
 pub const MAX_FILE: usize = 65536;
@@ -25,24 +28,52 @@ pub struct Tally {
 }
 
 // A tally for each queue in operation; how many packets have no hash, which are counted on queue 0 too; and the total.
-#[derive(Drop)]
+#[derive(Debug, Drop)]
 pub struct Counts {
     pub queues: ArrayVec<Tally, MAX_QUEUES>,
     pub unhashed: u32,
     pub total: Tally,
 }
 
-// Counts the records of a capture, of which the header was read.
-pub fn count_records(settings: &settings_file::Held, link: Link, captured: &[u8]) -> Result<Counts, RecordWrong>
-    requires { Good (settings_held settings.now) × (length captured.now ≤ max_file) }
-    ensures { report_of result ≡ report_over (settings_held settings.now) link captured.now }
+// Why there is no report.
+#[derive(Clone, Copy, Debug, PartialEq, Eq)]
+pub enum ReportRefusal {
+    // A file has more than 65,536 octets.
+    FileTooLong,
+    Settings(SettingsRefusal),
+    Header(HeaderWrong),
+    Record(RecordWrong),
+}
+
+// The report on a settings file and a capture.
+#[tactic(auto, unfolding(crate::specs::Reports::report_on))]
+pub fn report_on(settings: &[u8], captured: &[u8]) -> Result<Counts, ReportRefusal>
+    ensures counts { report_of result ≡ report_on settings.now captured.now }
+    ensures queues { IfOk result (λ c. length c.queues.items ≤ max_queues) }
 {
-    let mut counts = Counts::none(settings.queues);
+    if settings.len().max(captured.len()) > MAX_FILE {
+        return Err(ReportRefusal::FileTooLong);
+    }
+    let interface = settings_file::load_settings(settings)?;
+    let link = link_types::header(captured)?;
+    count_records(&interface, link, captured)
+}
+
+// Counts the records of a capture one after the other.
+fn count_records(
+    interface: &Interface,
+    link: Link,
+    captured: &[u8],
+) -> Result<Counts, ReportRefusal>
+    requires { Good (settings_in interface.now) × (length captured.now ≤ max_file) }
+    ensures counts { report_of result ≡ report_over (settings_in interface.now) link captured.now }
+    ensures queues { IfOk result (λ c. length c.queues.items ≤ max_queues) }
+{
+    let mut counts = Counts::none(interface.queues as usize);
     for record in Reader::open(captured) {
         let record = record?;
         let frame = &captured[record.start..record.end];
-        let packet = link_types::ip_part(link, frame);
-        let choice = interface::steer(settings.flags, &settings.key, &settings.entries, settings.count, packet);
+        let choice = interface.steer(link_types::ip_part(link, frame));
         counts.add(choice, frame.len() as u32);
     }
     Ok(counts)

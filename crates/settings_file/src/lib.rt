@@ -15,9 +15,7 @@ use messages::{HEADER, MAX_ACK, MAX_ENTRIES, MAX_PAYLOAD, SIZE_AT, SUCCESS};
 use ring::{Receiving, Sending};
 use toeplitz::KEY_LENGTH;
 
-// The numbers of the refusals.
-const QUEUES_WRONG: u32 = 6;
-
+// The number of the refusal of a message.
 const SETTINGS_WRONG: u32 = 22;
 
 // Why a file is refused.
@@ -34,7 +32,7 @@ impl From<SettingsRefusal> for u32 {
 
     fn from(refusal: SettingsRefusal) -> u32 {
         match refusal {
-            SettingsRefusal::QueueCount => QUEUES_WRONG,
+            SettingsRefusal::QueueCount => u32::from(QueuesWrong),
             SettingsRefusal::Message => SETTINGS_WRONG,
         }
     }

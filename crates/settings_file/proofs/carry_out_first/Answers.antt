@@ -1,6 +1,5 @@
 -- `settings_file::carry_out_first` meets its contract: a message that is cut short or not acked with success is refused.
-use Rattle.octets.specs.Prelude.{refl, ◌+◌, arith, length, lt-leb}
-use Rattle.messages.specs.Wire.{size_in}
+use Rattle.octets.specs.Prelude.{refl, arith, length, lt-leb}
 use Rattle.ring.specs.Reading.{message_length}
 use Rattle.settings_file.proofs.Loads.{from_cut}
 use Rattle.settings_file.proofs.Firsts.{first-cut, good-left, first-refused, first-done}

@@ -1,5 +1,5 @@
 -- `settings_file::load_settings` meets its contract: the queue count first, then the messages behind it.
-use Rattle.octets.specs.Prelude.{◌≡◌, sym, ap, ◌∙◌, List, ℕ, get_or, drop, arith}
+use Rattle.octets.specs.Prelude.{◌≡◌, sym, ◌∙◌, get_or, drop, arith}
 use Rattle.std.proofs.lemmas.Grind.{common_steps}
 use Rattle.std.proofs.lemmas.Result.{err_from_is_err_and}
 use Rattle.settings_file.proofs.Loads.{load-refused, set-up-done}
