@@ -1,5 +1,5 @@
 -- Where fewer than 40 octets are read, all are the key and none the input.
-use Rattle.octets.specs.Prelude.{◌≡◌, sym, ap, ◌∙◌, List, ℕ, ◌-◌, min, dec_lt, arith, length, take, drop, length-drop}
+use Rattle.octets.specs.Prelude.{◌≡◌, sym, ap, ◌∙◌, List, ℕ, min, dec_lt, arith, length, take, drop}
 use Rattle.octets.specs.Prelude.{drop_of_length-le, take_all}
 use Rattle.toeplitz.specs.Hash.{key_length}
 

@@ -9,7 +9,8 @@ use Rattle.messages.specs.Settings.{Settings}
 use Rattle.steering.specs.Steering.{queue_in}
 use Rattle.capture.specs.Records.{record_wrong, Fall, no_record, one_more, all_of, captured_octets}
 use Rattle.capture.specs.declared.Link.{Link}
-use Rattle.report.specs.Counting.{choice_for, is_unhashed, unhashed_of, on_queue, Tally, tally_of, Counted, counted_over}
+use Rattle.report.specs.Counting.{choice_for, is_unhashed, unhashed_of, on_queue, tally_of, Counted, counted_over}
+use Rattle.report.specs.declared.Tally.{Tally}
 use Rattle.report.specs.Inner.{nothing, nothing_on, tally_with, tally_on, with_packet, HasRoom}
 use Rattle.report.proofs.Tallies.{Adds, packets-add, octets-add, those-one, those-none, those-less, rising-of}
 

@@ -1,7 +1,8 @@
 -- Laws of what is counted: record by record, and queue by queue.
 use Rattle.octets.specs.Prelude.{◌≡◌, refl, ◌∙◌, ap₂, List, [], ◌∷◌, Bool, true, false, cond, ℕ, zero, suc, ◌+◌, ◌≤◌, ◌<◌, arith, length, get_or}
 use Rattle.capture.specs.Records.{captured_octets}
-use Rattle.report.specs.Counting.{those, rising, Tally}
+use Rattle.report.specs.Counting.{those, rising}
+use Rattle.report.specs.declared.Tally.{Tally}
 use Rattle.report.specs.Inner.{nothing}
 
 -- a size of records that is the sum of what each weighs

@@ -7,7 +7,7 @@ use Rattle.interface.specs.States.{steered_by}
 use Rattle.capture.specs.Records.{captured_octets}
 use Rattle.capture.specs.Packets.{ip_part}
 use Rattle.capture.specs.declared.Link.{Link}
-pub use Rattle.report.specs.declared.Tally.{Tally}
+use Rattle.report.specs.declared.Tally.{Tally}
 
 -- what one line counts: packets, and their captured octets
 abbrev pub tally_of : List (List ℕ) → Tally
