@@ -29,7 +29,7 @@ fn read_run(page: &[u8], at: usize, into: &mut [u8])
     ensures { into.new ≡ take (length into.old) (drop at page.now) }
 {
     let n = into.len();
-    into.copy_from_slice(&page[at..at + n]);
+    octets::copy(into, &page[at..at + n]);
 }
 
 // Puts `from` into the area that stands at `area`, from `count` on.
@@ -54,5 +54,5 @@ fn write_run(page: &mut [u8], at: usize, from: &[u8])
     ensures { page.new ≡ sets page.old at from.now }
 {
     let n = from.len();
-    page[at..at + n].copy_from_slice(from);
+    octets::copy(&mut page[at..at + n], from);
 }

@@ -1,3 +1,2 @@
--- What the stages of an event did, and how it is stored.
+-- What the stages of an event did, as the definitions say it.
 pub mod Parts
-pub mod Stored

@@ -1,13 +1,16 @@
 -- One event: its answer, the state and every octet of the page that it leaves.
-use Rattle.std.specs.Prelude.{◌-◌}
+use Rattle.std.specs.Prelude.{Result, Ok, Err, ◌-◌}
 use Rattle.octets.specs.Prelude.{List, Bool, cond, ℕ, length, eqb, leb, ltb}
 use Rattle.messages.specs.Wire.{type_in, size_in}
 use Rattle.messages.specs.Requests.{carried_out, Carried}
-use Rattle.page.specs.Refusals.{page_wrong, requests_wrong, responses_wrong}
+use Rattle.page.specs.Refusals.{page_wrong, requests_wrong, responses_wrong, page_refusal_number}
+use Rattle.page.specs.declared.PageRefusal.{PageRefusal}
 use Rattle.page.specs.Page.{page_size, area_size, req_prod_at, rsp_cons_at, requests_at, responses_at, count_in, less, counted, put}
 use Rattle.ring.specs.Reading.{whole, received_from, Incoming}
 use Rattle.ring.specs.Writing.{fitting, sent_octets, sent, Outgoing}
 use Rattle.interface.specs.States.{HostState}
+use Rattle.interface.specs.declared.Progress.{Progress}
+use Rattle.interface.specs.declared.Progress.TheVariants.{Waiting, Written, Owed}
 
 -- the answers to an event by their numbers: no whole message yet, ack wholly written, ack octets still owed
 abbrev pub waiting : ℕ
@@ -18,6 +21,16 @@ ack_written = 1
 
 abbrev pub ack_owed : ℕ
 ack_owed = 2
+
+-- the number that each answer stands for
+abbrev pub progress_number : Progress → ℕ
+progress_number Waiting = waiting
+progress_number Written = ack_written
+progress_number Owed = ack_owed
+
+abbrev pub event_number : Result Progress PageRefusal → ℕ
+event_number (Ok progress) = progress_number progress
+event_number (Err e) = page_refusal_number e
 
 -- what an event answers, and leaves
 pub record After : Type 0 where

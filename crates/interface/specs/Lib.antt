@@ -1,4 +1,3 @@
 -- The state of an interface, and one event, in the order of document 01.
 pub mod States
 pub mod Events
-pub mod Inner

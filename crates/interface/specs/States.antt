@@ -1,14 +1,15 @@
 -- The state of an interface: what setup answers, what holds of every state from then on, and the packet question.
-use Rattle.std.specs.Prelude.{◌≡◌, ◌&&◌, ◌<◌}
-use Rattle.octets.specs.Prelude.{List, cond, ℕ, get_or, leb}
-use Rattle.octets.specs.Outcome.{Outcome, value, refused}
+use Rattle.std.specs.Prelude.{Result, Ok, Err, ◌≡◌, ◌&&◌, ◌<◌}
+use Rattle.octets.specs.Prelude.{List, cond, ℕ, leb}
+use Rattle.octets.specs.Outcome.{Outcome, value, refused, done}
 use Rattle.messages.specs.Wire.{max_payload}
 use Rattle.messages.specs.Requests.{max_ack}
 use Rattle.messages.specs.Settings.{Settings, max_queues, table_of, settings_of, settings_at_setup, Good as GoodSettings}
 use Rattle.steering.specs.Steering.{Choice, steered}
-use Rattle.ring.specs.Reading.{Incoming, incoming_of, incoming_at_setup, GoodIncoming}
-use Rattle.ring.specs.Writing.{Outgoing, outgoing_of, outgoing_at_setup, owed, GoodOutgoing}
+use Rattle.ring.specs.Reading.{Incoming, incoming_in, incoming_at_setup, GoodIncoming}
+use Rattle.ring.specs.Writing.{Outgoing, outgoing_in, outgoing_at_setup, owed, GoodOutgoing}
 use Rattle.interface.specs.declared.Interface.{Interface}
+use Rattle.interface.specs.declared.QueuesWrong.{QueuesWrong}
 
 -- refusal 6: setup with 0 or more than 64 queues
 abbrev pub queues_wrong : ℕ
@@ -20,29 +21,17 @@ pub record HostState : Type 0 where
   pub incoming : Incoming
   pub outgoing : Outgoing
 
--- how it is stored: eight numbers in one list, and five arrays of octets. The numbers are, in this order: queues, flags and
--- mapping entries; octets taken of the present request, and own req_cons; octets of the ack, how many of them are written,
--- and own rsp_prod
-abbrev pub settings_in : List ℕ → List ℕ → List ℕ → Settings
-settings_in numbers key entries = settings_of (get_or numbers 0 0) (get_or numbers 1 0) key entries (get_or numbers 2 0)
+-- how it is stored: the settings that the struct of an interface holds, and its state
+abbrev pub settings_in : Interface → Settings
+settings_in i = settings_of i.queues i.flags i.key i.entries i.entry_count
 
-abbrev pub incoming_in : List ℕ → List ℕ → List ℕ → Incoming
-incoming_in numbers header payload = incoming_of header payload (get_or numbers 3 0) (get_or numbers 4 0)
-
-abbrev pub outgoing_in : List ℕ → List ℕ → Outgoing
-outgoing_in numbers ack = outgoing_of ack (get_or numbers 5 0) (get_or numbers 6 0) (get_or numbers 7 0)
-
-abbrev pub interface_in : List ℕ → List ℕ → List ℕ → List ℕ → List ℕ → List ℕ → HostState
-interface_in numbers header payload ack key entries =
-    record {
-      settings = settings_in numbers key entries;
-      incoming = incoming_in numbers header payload;
-      outgoing = outgoing_in numbers ack;
-    }
-
--- the state that the struct of an interface holds
 abbrev pub state_of : Interface → HostState
-state_of i = interface_in i.numbers i.header i.payload i.ack i.key i.entries
+state_of i =
+    record {
+      settings = settings_in i;
+      incoming = incoming_in i.incoming i.header i.payload;
+      outgoing = outgoing_in i.outgoing i.ack;
+    }
 
 -- a new interface: the settings at setup, nothing read, no ack, both own counts 0
 abbrev pub interface_at_setup : ℕ → HostState
@@ -52,6 +41,11 @@ interface_at_setup queues =
 -- what setup answers
 unfoldable pub set_up_outcome : ℕ → Outcome HostState
 set_up_outcome queues = cond (leb 1 queues && leb queues max_queues) (value (interface_at_setup queues)) (refused queues_wrong)
+
+-- the number that setup answers
+abbrev pub set_up_number : Result Unit QueuesWrong → ℕ
+set_up_number (Ok u) = done
+set_up_number (Err e) = queues_wrong
 
 -- a good state: what holds of the state of an interface from setup on
 pub record Good (s : HostState) : Type 0 where

@@ -1,88 +1,81 @@
-// Each request by itself: its checks in order, and its effect only after the last. It answers its status, and copies only what it
-// replaces.
+// Each request by itself: its checks in order, and its effect only after the last. A refusal leaves what is lent as it was.
 #![tactic(auto)]
 
-ghost use Rattle.std.specs.Prelude.{◌≡◌};
-ghost use Rattle.octets.specs.Prelude.{length};
-ghost use Rattle.messages.specs.Wire.{max_payload};
 ghost use Rattle.messages.specs.Inner.{GetsFlags, SetsFlags, SetsKey, SetsMapping};
 
-use messages::{BUFFER_OVERFLOW, INVALID_PARAMETER, MAX_ENTRIES, SUCCESS};
+use messages::{FIELD, MAX_ENTRIES, MAX_PAYLOAD, Refusal};
 use toeplitz::KEY_LENGTH;
 
 // Sizes as a header gives them.
-const FIELD_SIZE: u32 = messages::FIELD as u32;
+const FIELD_SIZE: u32 = FIELD as u32;
 
 const KEY_SIZE: u32 = KEY_LENGTH as u32;
 
 const MOST_ENTRIES: u32 = MAX_ENTRIES as u32;
 
-pub fn get_flags(size: u32) -> u8
+pub fn get_flags(size: u32) -> Result<(), Refusal>
     ensures { GetsFlags size result }
 {
     if size != 0 {
-        return INVALID_PARAMETER;
+        return Err(Refusal::InvalidParameter);
     }
-    SUCCESS
+    Ok(())
 }
 
-pub fn set_flags(flags: &mut u8, size: u32, payload: &[u8]) -> u8
-    requires { length payload.now ≡ max_payload }
+pub fn set_flags(flags: &mut u64, size: u32, payload: &[u8; MAX_PAYLOAD]) -> Result<(), Refusal>
     ensures { SetsFlags size payload.now flags.old result flags.new }
 {
     if size != FIELD_SIZE {
-        return INVALID_PARAMETER;
+        return Err(Refusal::InvalidParameter);
     }
     let value = octets::read_u64(payload, 0);
     if value > messages::ALL_FLAGS as u64 {
-        return INVALID_PARAMETER;
+        return Err(Refusal::InvalidParameter);
     }
-    *flags = value as u8;
-    SUCCESS
+    *flags = value;
+    Ok(())
 }
 
-pub fn set_key(key: &mut [u8; KEY_LENGTH], size: u32, payload: &[u8]) -> u8
-    requires { length payload.now ≡ max_payload }
+pub fn set_key(
+    key: &mut [u8; KEY_LENGTH],
+    size: u32,
+    payload: &[u8; MAX_PAYLOAD],
+) -> Result<(), Refusal>
     ensures { SetsKey size payload.now key.old result key.new }
 {
     if size != KEY_SIZE {
-        return INVALID_PARAMETER;
+        return Err(Refusal::InvalidParameter);
     }
-    // By an array of its own, of which the compiler knows that it lies apart from the payload: so the octets are
-    // moved many at a time.
-    let mut new = [0u8; KEY_LENGTH];
-    octets::copy(&mut new, &payload[0..KEY_LENGTH]);
-    *key = new;
-    SUCCESS
+    key.copy_from_slice(&payload[0..KEY_LENGTH]);
+    Ok(())
 }
 
 pub fn set_mapping(
     queues: u8,
     entries: &mut [u8; MAX_ENTRIES],
-    count: &mut u8,
+    count: &mut u64,
     size: u32,
-    payload: &[u8],
-) -> u8
-    requires { length payload.now ≡ max_payload }
+    payload: &[u8; MAX_PAYLOAD],
+) -> Result<(), Refusal>
     ensures { SetsMapping queues size payload.now entries.old count.old result entries.new
         count.new }
 {
     if size % FIELD_SIZE != 0 {
-        return INVALID_PARAMETER;
+        return Err(Refusal::InvalidParameter);
     }
     let new_count = size / FIELD_SIZE;
     if !messages::is_power_of_two(new_count) {
-        return INVALID_PARAMETER;
+        return Err(Refusal::InvalidParameter);
     }
     if new_count > MOST_ENTRIES {
-        return BUFFER_OVERFLOW;
+        return Err(Refusal::BufferOverflow);
     }
     if !messages::all_below(payload, new_count as u8, queues) {
-        return INVALID_PARAMETER;
+        return Err(Refusal::InvalidParameter);
     }
     let mapping = messages::build_table(payload, new_count as u8);
     let table = mapping.entries;
     *entries = table;
-    *count = mapping.count;
-    SUCCESS
+    *count = mapping.count as u64;
+    Ok(())
 }

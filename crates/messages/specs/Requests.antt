@@ -1,5 +1,5 @@
 -- Requests judged and carried out: the status, the settings left, and the ack.
-use Rattle.std.specs.Prelude.{◌∷◌, ◌++◌, ◌&&◌, ◌-◌, ◌/◌, ◌%◌}
+use Rattle.std.specs.Prelude.{Result, Ok, Err, ◌∷◌, ◌++◌, ◌&&◌, ◌-◌, ◌/◌, ◌%◌}
 use Rattle.octets.specs.Prelude.{List, [], Bool, true, false, cond, ℕ, zero, suc, length, take}
 use Rattle.octets.specs.Prelude.{drop, replicate, eqb, leb, ltb}
 use Rattle.octets.specs.Numbers.{number_at, octets_of}
@@ -7,6 +7,10 @@ use Rattle.toeplitz.specs.Hash.{key_length}
 use Rattle.messages.specs.Wire.{field_size, message, type_in, size_in, payload_in, status_in, ack_type, get_flags_type, set_flags_type, set_key_type}
 use Rattle.messages.specs.Wire.{set_mapping_type, success, not_supported, invalid_parameter, buffer_overflow, all_flags}
 use Rattle.messages.specs.Settings.{Settings, max_entries, is_power_of_two, mapping_of}
+use Rattle.messages.specs.declared.RequestType.{RequestType}
+use Rattle.messages.specs.declared.RequestType.TheVariants.{GetFlags, SetFlags, SetKey, SetMapping}
+use Rattle.messages.specs.declared.Refusal.{Refusal}
+use Rattle.messages.specs.declared.Refusal.TheVariants.{NotSupported, InvalidParameter, BufferOverflow}
 use Rattle.messages.specs.declared.Mapping.{Mapping}
 use Rattle.messages.specs.declared.Ack.{Ack}
 
@@ -22,6 +26,24 @@ unfoldable pub request_of : ℕ → Request
 request_of t =
     cond (eqb t get_flags_type) get_flags
     (cond (eqb t set_flags_type) set_flags (cond (eqb t set_key_type) set_key (cond (eqb t set_mapping_type) set_mapping none)))
+
+-- a request by its name in the code, of which there is none for any other type
+abbrev pub named : Request → Result RequestType Refusal
+named get_flags = Ok GetFlags
+named set_flags = Ok SetFlags
+named set_key = Ok SetKey
+named set_mapping = Ok SetMapping
+named none = Err NotSupported
+
+-- the status that each refusal stands for, and that of a request which is carried out or refused
+abbrev pub refusal_status : Refusal → ℕ
+refusal_status NotSupported = not_supported
+refusal_status InvalidParameter = invalid_parameter
+refusal_status BufferOverflow = buffer_overflow
+
+abbrev pub status_told : Result Unit Refusal → ℕ
+status_told (Ok u) = success
+status_told (Err e) = refusal_status e
 
 -- what a payload holds: a flags value, a key, n queue entries
 abbrev pub flags_in : List ℕ → ℕ

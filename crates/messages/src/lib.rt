@@ -2,6 +2,9 @@
 // request out: the table that a mapping gives, and the ack.
 #![tactic(auto)]
 
+ghost use Rattle.std.specs.Prelude.{◌≡◌};
+ghost use Rattle.messages.specs.Requests.{request_of, named, refusal_status};
+
 mod acks;
 mod power;
 mod table;
@@ -29,7 +32,7 @@ pub const FIELD: usize = 8;
 
 pub const SIZE_AT: usize = 4;
 
-// The statuses of an ack.
+// The status of an ack to a request that is carried out, and those of the refusals.
 pub const SUCCESS: u8 = 0;
 
 pub const NOT_SUPPORTED: u8 = 1;
@@ -62,10 +65,50 @@ pub struct Ack {
     pub length: usize,
 }
 
-// What carrying out a request leaves beside what is lent: the flags, the number of mapping entries, and the ack's length.
-#[derive(Drop)]
-pub struct Numbers {
-    pub flags: u8,
-    pub count: u8,
-    pub ack_length: usize,
+// The requests of a guest.
+#[derive(Clone, Copy, Debug, PartialEq, Eq)]
+pub enum RequestType {
+    GetFlags,
+    SetFlags,
+    SetKey,
+    SetMapping,
+}
+
+// Why a request is not carried out.
+#[derive(Clone, Copy, Debug, PartialEq, Eq)]
+pub enum Refusal {
+    NotSupported,
+    InvalidParameter,
+    BufferOverflow,
+}
+
+// The request with a type, as a header gives it: any number can stand there.
+impl TryFrom<u32> for RequestType {
+    type Error = Refusal;
+
+    ghost try_from_gives = { λ t r. r ≡ named (request_of t) };
+
+    #[tactic(auto, unfolding(crate::specs::Requests::request_of))]
+    fn try_from(kind: u32) -> Result<RequestType, Refusal> {
+        match kind {
+            GET_FLAGS => Ok(RequestType::GetFlags),
+            SET_FLAGS => Ok(RequestType::SetFlags),
+            SET_KEY => Ok(RequestType::SetKey),
+            SET_MAPPING => Ok(RequestType::SetMapping),
+            _ => Err(Refusal::NotSupported),
+        }
+    }
+}
+
+// The status that a refusal is acked with.
+impl From<Refusal> for u8 {
+    ghost from_gives = { λ e status. status ≡ refusal_status e };
+
+    fn from(refusal: Refusal) -> u8 {
+        match refusal {
+            Refusal::NotSupported => NOT_SUPPORTED,
+            Refusal::InvalidParameter => INVALID_PARAMETER,
+            Refusal::BufferOverflow => BUFFER_OVERFLOW,
+        }
+    }
 }

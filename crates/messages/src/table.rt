@@ -13,14 +13,12 @@ pub fn all_below(payload: &[u8], count: u8, queues: u8) -> bool
     requires { count * field_size ≤ length payload.now }
     ensures { result ≡ all_below queues (entries_in count payload.now) }
 {
-    let mut k: u8 = 0;
-    while k < count {
+    for k in 0..count {
         // All eight octets count: a high one makes the queue number large.
         let queue = octets::read_u64(payload, k as usize * FIELD);
         if queue >= queues as u64 {
             return false;
         }
-        k += 1;
     }
     true
 }
@@ -31,11 +29,9 @@ pub fn build_table(payload: &[u8], count: u8) -> Mapping
     requires { (count * field_size ≤ length payload.now) × (count ≤ max_entries) × EachBelow 256 (entries_in count payload.now) }
     ensures { result ≡ mapping_of (entries_in count payload.now) }
 {
-    let mut entries = [0u8; MAX_ENTRIES];
-    let mut k: u8 = 0;
-    while k < count {
+    let mut entries = [0; MAX_ENTRIES];
+    for k in 0..count {
         entries[k as usize] = octets::read_u64(payload, k as usize * FIELD) as u8;
-        k += 1;
     }
     Mapping { entries, count }
 }

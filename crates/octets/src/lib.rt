@@ -5,12 +5,40 @@ ghost use Rattle.std.specs.Prelude.{◌≡◌, ◌+◌, ◌*◌, ◌≤◌, ◌+
 ghost use Rattle.octets.specs.Prelude.{length, take, drop, sets};
 ghost use Rattle.octets.specs.Numbers.{number_at, octets_of};
 
-// Copies src over dst, which is as long.
+// Octets of a word.
+const WORD: usize = 8;
+
+// Copies src over dst, which is as long: a word at a time as far as that goes, and the rest octet by octet. The library's
+// `copy_from_slice` becomes a call of memmove, and a C host is to give memcpy and memset alone.
 pub fn copy(dst: &mut [u8], src: &[u8])
     requires { length src.now ≡ length dst.old }
     ensures { dst.new ≡ src.now }
 {
-    dst.copy_from_slice(src);
+    let done = copy_words(dst, src);
+    copy_rest(dst, src, done);
+}
+
+// Copies as many octets as whole words have, and answers how many.
+fn copy_words(dst: &mut [u8], src: &[u8]) -> usize
+    requires { length src.now ≡ length dst.old }
+    ensures { (dst.new ≡ take result src.now ++ drop result dst.old) × (result ≤ length src.now) }
+{
+    let words = src.len() / WORD;
+    for k in 0..words {
+        write_u64(dst, k * WORD, read_u64(src, k * WORD));
+    }
+    words * WORD
+}
+
+// Copies the octets from `from` on, of which those before are there already.
+fn copy_rest(dst: &mut [u8], src: &[u8], from: usize)
+    requires src_len { (length src.now ≡ length dst.old) × (from ≤ length src.now) }
+    requires dst_value { dst.old ≡ take from src.now ++ drop from dst.old }
+    ensures { dst.new ≡ src.now }
+{
+    for i in from..src.len() {
+        dst[i] = src[i];
+    }
 }
 
 // The number in the four octets from `at` on.

@@ -2,12 +2,14 @@
 // the other end reads it; the functions are for both, with the places of the counts as parameters.
 #![tactic(auto)]
 
+ghost use Rattle.std.specs.Prelude.{◌≡◌};
+ghost use Rattle.page.specs.Refusals.{page_refusal_number};
+
 mod counts;
 
 pub use counts::{unread_by_other, unread_here, write_counts};
 
-// The refusals of a page, by document 01's numbers: its length, and a count of the other end's that is too far from the own one.
-// Both ends give them.
+// The numbers of the refusals of a page.
 pub const PAGE_WRONG: u32 = 3;
 
 pub const REQUESTS_WRONG: u32 = 4;
@@ -31,3 +33,27 @@ pub const RSP_PROD: usize = 12;
 pub const REQUESTS: usize = 16;
 
 pub const RESPONSES: usize = 1040;
+
+// Why a page is refused, at either end.
+#[derive(Clone, Copy, Debug, PartialEq, Eq)]
+pub enum PageRefusal {
+    // The page is not 4,096 octets.
+    PageLength,
+    // The count of req_prod is more than 1,024 ahead of that of req_cons.
+    RequestCount,
+    // The count of rsp_prod is more than 1,024 ahead of that of rsp_cons.
+    ResponseCount,
+}
+
+// The number of each refusal.
+impl From<PageRefusal> for u32 {
+    ghost from_gives = { λ e n. n ≡ page_refusal_number e };
+
+    fn from(refusal: PageRefusal) -> u32 {
+        match refusal {
+            PageRefusal::PageLength => PAGE_WRONG,
+            PageRefusal::RequestCount => REQUESTS_WRONG,
+            PageRefusal::ResponseCount => RESPONSES_WRONG,
+        }
+    }
+}

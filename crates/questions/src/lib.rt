@@ -1,5 +1,5 @@
-// The questions by number: the hash, the two-way question, and the packet question of an interface whose parts are lent. Values go
-// to places that are lent for them, which a refusal leaves as they were.
+// The questions by number: the hash, the two-way question, and the packet question of an interface. Values go to places that are
+// lent for them, which a refusal leaves as they were.
 #![tactic(auto)]
 
 ghost use Rattle.std.specs.Prelude.{◌≡◌};
@@ -10,9 +10,8 @@ ghost use Rattle.messages.specs.Settings.{Good as GoodSettings};
 ghost use Rattle.interface.specs.States.{settings_in, steered_by};
 ghost use Rattle.questions.specs.Answers.{meets, bit_told, Steers};
 
-use interface::{ENTRY_COUNT, FLAGS};
+use interface::Interface;
 use steering::Steered;
-use toeplitz::{HashAnswer, INPUT_TOO_LONG, KEY_LENGTH_WRONG, TwoWayAnswer};
 
 // What a question answers that is not refused; and the packet question, which never is.
 const DONE: u32 = 0;
@@ -26,14 +25,12 @@ pub fn hash(key: &[u8], input: &[u8], hash: &mut u32) -> u32
     ensures value { result ≡ number_of (hash_outcome key.now input.now) }
     ensures hash_after { hash.new ≡ placed itself (hash_outcome key.now input.now) hash.old }
 {
-    let answer = hashing::hash(key, input);
-    match answer {
-        HashAnswer::Hash(h) => {
+    match hashing::hash(key, input) {
+        Ok(h) => {
             *hash = h;
             DONE
         }
-        HashAnswer::KeyLength => KEY_LENGTH_WRONG,
-        HashAnswer::InputLength => INPUT_TOO_LONG,
+        Err(refusal) => refusal.into(),
     }
 }
 
@@ -43,44 +40,33 @@ pub fn two_way(key: &[u8], hash_type: u32, meet: &mut u32, bit: &mut usize) -> u
     ensures meet_after { meet.new ≡ placed meets (two_way_outcome key.now hash_type) meet.old }
     ensures bit_after { bit.new ≡ placed bit_told (two_way_outcome key.now hash_type) bit.old }
 {
-    let answer = directions::two_way(key, hash_type);
-    match answer {
-        TwoWayAnswer::Yes => {
+    match directions::two_way(key, hash_type) {
+        Ok(None) => {
             *meet = 1;
             DONE
         }
-        TwoWayAnswer::No(b) => {
+        Ok(Some(b)) => {
             *meet = 0;
             *bit = b;
             DONE
         }
-        TwoWayAnswer::KeyLength => KEY_LENGTH_WRONG,
-        TwoWayAnswer::HashType => toeplitz::TYPE_UNKNOWN,
+        Err(refusal) => refusal.into(),
     }
 }
 
 // Type, hash and queue of a packet under the settings of the interface.
-pub fn steer<'a>(
-    numbers: &'a [u64; interface::NUMBERS],
-    key: &'a [u8; toeplitz::KEY_LENGTH],
-    entries: &'a [u8; messages::MAX_ENTRIES],
+pub fn steer(
+    interface: &Interface,
     packet: &[u8],
     hash_type: &mut u32,
     hash: &mut u32,
     queue: &mut u32,
 ) -> u32
-    requires { GoodSettings (settings_in numbers.now key.now entries.now) }
-    ensures { Steers (steered_by (settings_in numbers.now key.now entries.now) packet.now)
+    requires { GoodSettings (settings_in interface.now) }
+    ensures { Steers (steered_by (settings_in interface.now) packet.now)
         hash_type.old hash.old result hash_type.new hash.new queue.new }
 {
-    let answer = interface::steer(
-        numbers[FLAGS] as u8,
-        key,
-        entries,
-        numbers[ENTRY_COUNT] as u8,
-        packet,
-    );
-    match answer {
+    match interface.steer(packet) {
         Steered::NoType { queue: q } => {
             *queue = q as u32;
             UNHASHED

@@ -1,93 +1,62 @@
-// Requests carried out in place, on the settings as they are lent, and acked.
+// The request that an interface holds, carried out and acked.
 #![tactic(auto)]
 
-ghost use Rattle.std.specs.Prelude.{◌≡◌};
-ghost use Rattle.messages.specs.Settings.{settings_of};
-ghost use Rattle.messages.specs.Requests.{request_of, ack_payload, ack_stored, carried_as, carried_out};
+ghost use Rattle.std.specs.Prelude.{◌≡◌, ◌^◌, ◌<◌};
+ghost use Rattle.messages.specs.Requests.{request_of, ack_payload, ack_stored, status_told};
 ghost use Rattle.messages.specs.Inner.{Leaves};
+ghost use Rattle.interface.specs.States.{state_of, settings_in};
+ghost use Rattle.interface.specs.Events.{carried_over};
 
-use messages::{
-    ALL_FLAGS, Ack, GET_FLAGS, MAX_ACK, MAX_ENTRIES, MAX_PAYLOAD, NOT_SUPPORTED, Numbers,
-    SET_MAPPING,
-};
-use toeplitz::KEY_LENGTH;
+use interface::Interface;
+use messages::{ALL_FLAGS, Ack, Refusal, RequestType, SUCCESS};
 
-// Carries out the message of type `kind` with `size` octets of payload, of which the first 1,024 are kept, under settings
-// whose key and entries are lent: the effect goes into them and into the numbers answered, and the ack into its place.
-pub fn carry_out(
-    queues: u8,
-    flags: u8,
-    count: u8,
-    key: &mut [u8; KEY_LENGTH],
-    entries: &mut [u8; MAX_ENTRIES],
-    kind: u32,
-    size: u32,
-    payload: &[u8; MAX_PAYLOAD],
-    ack: &mut [u8; MAX_ACK],
-) -> Numbers
-    ensures { carried_as (settings_of queues result.flags key.new entries.new result.count)
-        ack.new result.ack_length
-        ≡ carried_out (settings_of queues flags key.old entries.old count)
-        kind size payload.now }
+// Carries out the request that the interface holds, which is whole: its effect goes into the settings, its ack is owed, and the
+// next request begins.
+pub fn carry_out(i: &mut Interface)
+    requires { i.old.queues < 2 ^ 8 }
+    ensures { state_of i.new ≡ carried_over (state_of i.old) }
 {
-    let mut flags_left = flags;
-    let mut count_left = count;
-    let status = apply(
-        queues,
-        &mut flags_left,
-        key,
-        entries,
-        &mut count_left,
-        kind,
-        size,
-        payload,
-    );
-    let answer = answer(kind, status);
-    let octets = answer.octets;
-    *ack = octets;
-    Numbers {
-        flags: flags_left,
-        count: count_left,
-        ack_length: answer.length,
+    let kind = octets::read_u32(&i.header, 0);
+    let size = octets::read_u32(&i.header, messages::SIZE_AT);
+    let judged = judge(i, kind, size);
+    let ack = answer(kind, judged);
+    let octets = ack.octets;
+    i.ack = octets;
+    i.incoming.taken = 0;
+    i.outgoing.length = ack.length as u64;
+    i.outgoing.written = 0;
+}
+
+// Judges the request, and puts its effect into the settings if it passes.
+fn judge(i: &mut Interface, kind: u32, size: u32) -> Result<(), Refusal>
+    requires { i.old.queues < 2 ^ 8 }
+    ensures settings_after { Leaves (request_of kind) (settings_in i.old) size i.old.payload (status_told result) (settings_in i.new) }
+    ensures ring_stays { ((state_of i.new).incoming ≡ (state_of i.old).incoming)
+        × ((state_of i.new).outgoing ≡ (state_of i.old).outgoing) }
+{
+    match RequestType::try_from(kind) {
+        Ok(RequestType::GetFlags) => judging::get_flags(size),
+        Ok(RequestType::SetFlags) => judging::set_flags(&mut i.flags, size, &i.payload),
+        Ok(RequestType::SetKey) => judging::set_key(&mut i.key, size, &i.payload),
+        Ok(RequestType::SetMapping) => judging::set_mapping(
+            i.queues as u8,
+            &mut i.entries,
+            &mut i.entry_count,
+            size,
+            &i.payload,
+        ),
+        Err(refusal) => Err(refusal),
     }
 }
 
-// Judges the request, puts its effect into the settings if it passes, and answers its status.
-fn apply(
-    queues: u8,
-    flags: &mut u8,
-    key: &mut [u8; KEY_LENGTH],
-    entries: &mut [u8; MAX_ENTRIES],
-    count: &mut u8,
-    kind: u32,
-    size: u32,
-    payload: &[u8; MAX_PAYLOAD],
-) -> u8
-    ensures { Leaves (request_of kind) (settings_of queues flags.old key.old entries.old count.old)
-        size payload.now result (settings_of queues flags.new key.new entries.new count.new) }
+// The ack to a request of this type that is carried out or refused.
+fn answer(kind: u32, judged: Result<(), Refusal>) -> Ack
+    ensures { result ≡ ack_stored (ack_payload (request_of kind) (status_told judged)) }
 {
-    if kind == GET_FLAGS {
-        return judging::get_flags(size);
-    }
-    if kind == messages::SET_FLAGS {
-        return judging::set_flags(flags, size, payload);
-    }
-    if kind == messages::SET_KEY {
-        return judging::set_key(key, size, payload);
-    }
-    if kind == SET_MAPPING {
-        return judging::set_mapping(queues, entries, count, size, payload);
-    }
-    NOT_SUPPORTED
-}
-
-// The ack to a request of this type, with its status.
-fn answer(kind: u32, status: u8) -> Ack
-    ensures { result ≡ ack_stored (ack_payload (request_of kind) status) }
-{
-    if kind == GET_FLAGS && status == messages::SUCCESS {
+    match judged {
         // What is supported, whatever is set.
-        return messages::with_flags(ALL_FLAGS);
+        Ok(()) if kind == messages::GET_FLAGS => messages::with_flags(ALL_FLAGS),
+        Ok(()) => messages::with_status(SUCCESS),
+        Err(refusal) => messages::with_status(refusal.into()),
     }
-    messages::with_status(status)
 }

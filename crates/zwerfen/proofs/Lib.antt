@@ -1,3 +1,2 @@
--- The parts of the structs that are lent.
-pub mod Parts
+-- What a reader wants of the exported calls.
 pub mod Theorems

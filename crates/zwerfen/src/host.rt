@@ -7,21 +7,19 @@ ghost use Rattle.questions.specs.Answers.{Steers};
 
 use interface::Interface;
 
+// What a setup answers that is not refused.
+const DONE: u32 = 0;
+
 // Sets up the interface with this many queues in operation, 1 to 64.
 #[unsafe(no_mangle)]
 pub extern "C" fn zwerfen_set_up(interface: &mut Interface, queues: u32) -> u32
     ensures { (result ≡ number_of (set_up_outcome queues))
         × (state_of interface.new ≡ placed itself (set_up_outcome queues) (state_of interface.old)) }
 {
-    interface::set_up(
-        &mut interface.numbers,
-        &mut interface.header,
-        &mut interface.payload,
-        &mut interface.ack,
-        &mut interface.key,
-        &mut interface.entries,
-        queues,
-    )
+    match interface.set_up(queues) {
+        Ok(()) => DONE,
+        Err(refusal) => refusal.into(),
+    }
 }
 
 // One event of the interface on its page.
@@ -32,15 +30,10 @@ pub extern "C" fn zwerfen_event(interface: &mut Interface, page: &mut [u8]) -> u
         ≡ event_of (state_of interface.old) page.old)
         × Good (state_of interface.new) }
 {
-    backend::event(
-        &mut interface.numbers,
-        &mut interface.header,
-        &mut interface.payload,
-        &mut interface.ack,
-        &mut interface.key,
-        &mut interface.entries,
-        page,
-    )
+    match backend::event(interface, page) {
+        Ok(progress) => progress.into(),
+        Err(refusal) => refusal.into(),
+    }
 }
 
 // Type, hash and queue of a packet under the settings of the interface.
@@ -57,13 +50,5 @@ pub extern "C" fn zwerfen_steer(
         hash_type.old hash.old result hash_type.new hash.new
         queue.new }
 {
-    questions::steer(
-        &interface.numbers,
-        &interface.key,
-        &interface.entries,
-        packet,
-        hash_type,
-        hash,
-        queue,
-    )
+    questions::steer(interface, packet, hash_type, hash, queue)
 }

@@ -8,5 +8,5 @@ pub returns : goal.returns
 returns c =
     let a = c.args in
     let n : ℕ = a.at + length a.from.now - a.at in
-    ap (λ (ys : List ℕ). put_mid a.at n a.page.now ys) c.copy_from_slice.ensures.after
+    ap (λ (ys : List ℕ). put_mid a.at n a.page.now ys) c.copy.ensures
     ∙ part-sets a.page.now a.from.now a.at n (omega arith) (omega arith)

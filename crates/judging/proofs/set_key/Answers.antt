@@ -11,4 +11,4 @@ returns-then-size-ne-KEY_SIZE c q flags entries count = carried-refused set_key 
 pub returns : goal.returns
 returns c q flags entries count =
     let held = settings_of q flags c.args.key.now entries count in
-    key_set held _ _ _ c.copy.ensures (set-key-done _ _ _ c.if-size-ne-KEY_SIZE.false)
+    key_set held _ _ _ c.copy_from_slice.ensures.after (set-key-done _ _ _ c.if-size-ne-KEY_SIZE.false)

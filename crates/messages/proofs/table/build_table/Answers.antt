@@ -7,15 +7,15 @@ use Rattle.messages.proofs.table.build_table.Goals as goal
 
 pub loop-k-init : goal.loop-k-init
 unfolding entries_in
-loop-k-init c = (refl, search rules, search rules)
+loop-k-init c = (refl, refl)
 
 pub overflow_cast-entries : goal.overflow_cast-entries
 overflow_cast-entries c =
-    omega (arith, entry-below 256 _ _ _ _ c.requires.2 c.loop-k-test.true c.read_u64.ensures)
+    omega (arith, entry-below 256 _ _ _ _ c.requires.2 (omega arith) c.read_u64.ensures)
 
 pub loop-k-preserved : goal.loop-k-preserved
 loop-k-preserved c =
-    (stored_next _ _ _ _ (search rules) c.read_u64.ensures c.loop-k.invariant.0, search rules, search rules)
+    (stored_next _ _ _ _ (search rules) c.read_u64.ensures c.loop-k.invariant.0, search rules)
 
 pub returns : goal.returns
 returns c =
@@ -25,4 +25,4 @@ returns c =
 
 pub overflow_cast-entries-in-loop-k : goal.overflow_cast-entries-in-loop-k
 overflow_cast-entries-in-loop-k c =
-    omega (arith, entry-below 256 _ _ _ _ c.requires.2 c.loop-k-test.true c.read_u64.ensures)
+    omega (arith, entry-below 256 _ _ _ _ c.requires.2 (omega arith) c.read_u64.ensures)

@@ -1,11 +1,8 @@
 -- The array holds the entries so far.
-use Rattle.octets.specs.Prelude.{◌≡◌, ◌≤◌, ◌-◌, length}
+use Rattle.octets.specs.Prelude.{◌≡◌, length}
 use Rattle.messages.specs.Settings.{max_entries, mapping_of}
 use Rattle.messages.specs.Requests.{entries_in}
 use Rattle.messages.proofs.table.build_table.Given as goal
 
 abbrev pub invariant-loop-k : goal.invariant-loop-k
-invariant-loop-k l = (l.entries ≡ (mapping_of (entries_in l.k l.payload)).entries) × (l.k ≤ l.count) × (length l.entries ≡ max_entries)
-
-abbrev pub decreases-loop-k : goal.decreases-loop-k
-decreases-loop-k l = l.count - l.k
+invariant-loop-k l = (l.entries ≡ (mapping_of (entries_in l.k l.payload)).entries) × (length l.entries ≡ max_entries)
