@@ -35,11 +35,9 @@ pub fn fill(buffer: &mut [u8], body: &[u8]) {
 
 // Octets that differ from each other, so that one at the wrong place is seen.
 fn make(part: &mut [u8], seed: u32) {
-    let mut x = seed as u64;
-    let mut i: usize = 0;
-    while i < part.len() {
-        x = (x * 1103515245 + 12345) % 4294967296;
-        part[i] = (x / 65536 % 256) as u8;
-        i += 1;
+    let mut x = seed;
+    for octet in part {
+        x = x.wrapping_mul(1103515245).wrapping_add(12345);
+        *octet = (x / 65536 % 256) as u8;
     }
 }

@@ -9,17 +9,15 @@ pub const MAX_GIVEN: usize = 256;
 pub fn entries_in(given: &[u8], first: usize, count: usize) -> [u64; MAX_GIVEN]
     requires { (first ≤ 2) × (count ≤ 256) }
 {
-    let mut entries = [0u64; MAX_GIVEN];
+    let mut entries = [0; MAX_GIVEN];
     if given.len() < first + 8 {
         return entries;
     }
     let last = given.len() - 8;
     let mut at = first;
-    let mut k: usize = 0;
-    while k < count {
+    for k in 0..count {
         entries[k] = octets::read_u64(given, at);
         at = next_place(at, first, last);
-        k += 1;
     }
     entries
 }

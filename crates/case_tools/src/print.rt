@@ -21,7 +21,7 @@ pub fn print_form(form: &[u8], numbers: &[u64]) {
         let octet = form[i];
         if is_mark(octet) {
             print_word(&form[printed..i]);
-            print_next(octet, numbers, next);
+            print_next(octet, numbers.get(next).copied());
             printed = i + 1;
             next += 1;
         }
@@ -33,24 +33,22 @@ fn is_mark(octet: u8) -> bool {
     octet == b'#' || octet == b'$'
 }
 
-fn print_next(mark: u8, numbers: &[u64], next: usize) {
-    if numbers.len() <= next {
-        return;
-    }
-    if mark == b'#' {
-        io::print_decimal(STDOUT, numbers[next]);
-    } else {
-        io::print_hex(STDOUT, numbers[next], 8);
+fn print_next(mark: u8, number: Option<u64>) {
+    match number {
+        Some(n) if mark == b'#' => {
+            io::print_decimal(STDOUT, n);
+        }
+        Some(n) => {
+            io::print_hex(STDOUT, n, 8);
+        }
+        None => {}
     }
 }
 
 // A number below 2^32 that depends on every octet and its place, for what is too long for a line.
 pub fn digest(octets: &[u8]) -> u64 {
-    let mut sum: u64 = 0;
-    let mut i: usize = 0;
-    while i < octets.len() {
-        sum = (sum * 257 + cases::wide(octets[i]) as u64 + 1) % 4294967296;
-        i += 1;
-    }
-    sum
+    let sum = octets.iter().fold(0u32, |sum, octet| {
+        sum.wrapping_mul(257).wrapping_add(u32::from(*octet) + 1)
+    });
+    u64::from(sum)
 }

@@ -8,12 +8,49 @@ ghost use Rattle.io.specs.Counts.{IsPrefixLen};
 
 use std::rt::Files;
 
-// A case's kind, and where its body stands and ends.
-#[derive(Drop)]
-pub struct Taken {
+// A case of a file.
+#[derive(Clone, Copy)]
+pub struct Case<'a> {
     pub kind: u8,
-    pub start: usize,
-    pub end: usize,
+    pub body: &'a [u8],
+}
+
+// The cases of a file, one after the other.
+#[derive(Clone, Copy)]
+pub struct Cases<'a> {
+    pub rest: &'a [u8],
+}
+
+// A case's kind, and where its body stands and ends.
+#[derive(Clone, Copy)]
+struct Taken {
+    kind: u8,
+    start: usize,
+    end: usize,
+}
+
+impl<'a> Iterator for Cases<'a> {
+    type Item = Case<'a>;
+
+    ghost use Rattle.cases.specs.Taking.{Takes, octets_left};
+    ghost use Rattle.std.specs.Iterator.{at_most};
+
+    ghost next_gives = { Takes };
+
+    ghost remaining = { λ s. at_most (octets_left s) };
+
+    fn next(&mut self) -> Option<Case<'a>> {
+        let rest = self.rest;
+        if rest.len() == 0 {
+            return None;
+        }
+        let taken = take_case(rest);
+        self.rest = &rest[taken.end..];
+        Some(Case {
+            kind: taken.kind,
+            body: &rest[taken.start..taken.end],
+        })
+    }
 }
 
 // Where printed text goes.
@@ -40,24 +77,23 @@ pub fn load_part<R: Files>(rt: &R, part: u8, buffer: &mut [u8]) -> usize
     files::read(rt, &name, buffer)
 }
 
-// The case that begins at `at`, so that the cases behind it begin at its end. One that is cut short is told, and has no kind
-// and no body: nothing stands behind it.
-pub fn take_case(cases: &[u8], at: usize) -> Taken
-    requires { at < length cases.now }
-    ensures { (at < result.end) × (result.start ≤ result.end) × (result.end ≤ length cases.now) }
+// The case that the octets begin with, so that the cases behind it begin at its end. One that is cut short is told, and has no
+// kind and no body: nothing stands behind it.
+fn take_case(cases: &[u8]) -> Taken
+    requires { 0 < length cases.now }
+    ensures { (0 < result.end) × (result.start ≤ result.end) × (result.end ≤ length cases.now) }
 {
-    if cases.len() - at < HEAD {
+    if cases.len() < HEAD {
         return cut_at(cases.len());
     }
-    let start = at + HEAD;
-    let n = number_at(cases, at + 1);
-    if cases.len() - start < n {
+    let n = number_at(cases, 1);
+    if cases.len() - HEAD < n {
         return cut_at(cases.len());
     }
     Taken {
-        kind: cases[at],
-        start,
-        end: start + n,
+        kind: cases[0],
+        start: HEAD,
+        end: HEAD + n,
     }
 }
 
@@ -83,7 +119,7 @@ pub fn number_at(octets: &[u8], at: usize) -> usize
     requires { at + 2 ≤ length octets.now }
     ensures { result < 65536 }
 {
-    wide(octets[at]) + 256 * wide(octets[at + 1])
+    usize::from(octets[at]) + 256 * usize::from(octets[at + 1])
 }
 
 // The number at the start of a body, where it is at most `most`. One that is cut short or too high is told, and counts as 0.
@@ -100,13 +136,6 @@ pub fn number_up_to(most: usize, body: &[u8]) -> usize
     0
 }
 
-// An octet as a length.
-pub fn wide(x: u8) -> usize
-    ensures { result < 256 }
-{
-    x as usize
-}
-
 // Copies the body of a case to the start of the buffer, and answers how many octets it has; none where it does not fit. The
 // next case may be in another file, so what a program needs again is copied.
 pub fn keep(buffer: &mut [u8], body: &[u8]) -> usize
@@ -119,4 +148,33 @@ pub fn keep(buffer: &mut [u8], body: &[u8]) -> usize
     }
     octets::copy(&mut buffer[0..n], body);
     n
+}
+
+// What a program needs again of a case: the next case may be in another file, so it is copied. There is no heap here, so the
+// octets stand in an array, with their number beside it.
+#[derive(Clone, Copy)]
+pub struct Kept<const N: usize> {
+    octets: [u8; N],
+    length: usize,
+    ghost inside: { length ≤ N },
+}
+
+impl<const N: usize> Kept<N> {
+    pub fn none() -> Self {
+        Kept {
+            octets: [0; N],
+            length: 0,
+        }
+    }
+
+    // Keeps the body of a case in place of what was kept; nothing where it does not fit.
+    pub fn keep(&mut self, body: &[u8]) {
+        self.length = keep(&mut self.octets, body);
+    }
+
+    // The octets that are kept.
+    pub fn octets(&self) -> &[u8] {
+        let octets = &self.octets[..];
+        &octets[..self.length]
+    }
 }

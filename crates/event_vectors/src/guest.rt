@@ -32,12 +32,10 @@ fn send(page: &mut [u8], body: &[u8])
     requires { length page.old ≡ 4160 }
 {
     let mut count = octets::read_u32(&page[..], REQ_PROD);
-    let mut i: usize = 0;
-    while i < body.len() {
+    for octet in body {
         let place = (count % page::AREA) as usize;
-        page[page::REQUESTS + place] = body[i];
-        count = std::num::wrapping_add_u32(count, 1);
-        i += 1;
+        page[page::REQUESTS + place] = *octet;
+        count = count.wrapping_add(1);
     }
     octets::write_u32(page, REQ_PROD, count);
 }
@@ -52,7 +50,7 @@ fn take(page: &mut [u8], body: &[u8])
     }
     let taken = octets::read_u32(&page[..], RSP_CONS);
     let more = octets::read_u32(body, 0);
-    octets::write_u32(page, RSP_CONS, std::num::wrapping_add_u32(taken, more));
+    octets::write_u32(page, RSP_CONS, taken.wrapping_add(more));
 }
 
 // Counts by which nothing stands unread in either area. The interface then takes its own two from the page.

@@ -8,6 +8,7 @@ ghost use Rattle.interface.specs.States.{Good, state_of};
 
 mod guest;
 
+use cases::Cases;
 use interface::Interface;
 
 // The kinds that the interface has a part in, of which the last is the guest's too; the others are the guest's.
@@ -26,47 +27,34 @@ fn main(rt: HostRuntime) {
     for part in 0..cases::PARTS {
         // A file that is not there has no case.
         let n = cases::load_part(&rt, part, &mut buffer);
-        i = run(i, &mut page, &buffer[..n]);
+        run(&mut i, &mut page, &buffer[..n]);
     }
 }
 
 // Runs the cases of one file on the interface and the page that those before it left.
-fn run(first: Interface, page: &mut [u8], cases: &[u8]) -> Interface
-    requires { Good (state_of first) × (length page.old ≡ 4160) }
-    ensures { Good (state_of result) }
+fn run(i: &mut Interface, page: &mut [u8], cases: &[u8])
+    requires { Good (state_of i.old) × (length page.old ≡ 4160) }
+    ensures { Good (state_of i.new) }
 {
-    let mut i = first;
-    let mut at: usize = 0;
-    while at < cases.len() {
-        let taken = cases::take_case(cases, at);
-        let start = taken.start;
-        let end = taken.end;
-        i = answer(i, page, taken.kind, &cases[start..end]);
-        at = end;
+    for case in (Cases { rest: cases }) {
+        answer(i, page, case.kind, case.body);
     }
-    i
 }
 
 // Answers one case.
-fn answer(i: Interface, page: &mut [u8], kind: u8, body: &[u8]) -> Interface
-    requires { Good (state_of i) × (length page.old ≡ 4160) }
-    ensures { Good (state_of result) }
+fn answer(i: &mut Interface, page: &mut [u8], kind: u8, body: &[u8])
+    requires { Good (state_of i.old) × (length page.old ≡ 4160) }
+    ensures { Good (state_of i.new) }
 {
     match kind {
         SET_UP => host_cases::set_up(i, body),
         EVENT => host_cases::event(i, page, body),
-        PACKET => {
-            packet(&i, body);
-            i
-        }
+        PACKET => packet(i, body),
         COUNTS => {
             guest::empty_areas(page, body);
-            host_cases::recount(i, &page[..])
+            host_cases::recount(i, &page[..]);
         }
-        _ => {
-            guest::act(page, kind, body);
-            i
-        }
+        _ => guest::act(page, kind, body),
     }
 }
 
@@ -74,7 +62,5 @@ fn answer(i: Interface, page: &mut [u8], kind: u8, body: &[u8]) -> Interface
 fn packet(i: &Interface, body: &[u8])
     requires { Good (state_of i.now) }
 {
-    let flags = i.numbers[interface::FLAGS] as u8;
-    let count = i.numbers[interface::ENTRY_COUNT] as u8;
-    answer_text::print_steered(interface::steer(flags, &i.key, &i.entries, count, body));
+    answer_text::print_steered(i.steer(body));
 }

@@ -2,7 +2,7 @@
 // of its first part, an octet, and then its two parts.
 #![tactic(auto)]
 
-use cases::print_cut;
+use cases::{Cases, print_cut};
 
 // The kinds: a hash call on a key and an input, a two-way call on a key and a hash type of one octet, and
 // what the two programs print for the second part.
@@ -22,13 +22,8 @@ fn main(rt: HostRuntime) {
 }
 
 fn run(cases: &[u8]) {
-    let mut at: usize = 0;
-    while at < cases.len() {
-        let taken = cases::take_case(cases, at);
-        let start = taken.start;
-        let end = taken.end;
-        split(taken.kind, &cases[start..end]);
-        at = end;
+    for case in (Cases { rest: cases }) {
+        split(case.kind, case.body);
     }
 }
 
@@ -38,34 +33,26 @@ fn split(kind: u8, body: &[u8]) {
         print_cut();
         return;
     }
-    let second = 1 + cases::wide(body[0]);
+    let second = 1 + usize::from(body[0]);
     if body.len() < second {
         print_cut();
         return;
     }
-    answer(kind, &body[1..second], &body[second..]);
+    print_answer(kind, &body[1..second], &body[second..]);
 }
 
-fn answer(kind: u8, first: &[u8], second: &[u8]) {
-    if kind == HASH {
-        text::print(answer_lines::hash_line(hashing::hash(first, second)));
-    } else if kind == TWO_WAY {
-        text::print(answer_lines::verdict_line(directions::two_way(first, hash_type(second))));
-    } else if kind == HASH_PROGRAM {
-        text::print(answer_lines::hash_text(second));
-    } else {
-        text::print(answer_lines::two_way_text(second));
-    }
+fn print_answer(kind: u8, first: &[u8], second: &[u8]) {
+    match kind {
+        HASH => text::print(answer_lines::hash_line(hashing::hash(first, second))),
+        TWO_WAY => {
+            text::print(answer_lines::verdict_line(directions::two_way(first, hash_type(second))))
+        }
+        HASH_PROGRAM => text::print(answer_lines::hash_text(second)),
+        _ => text::print(answer_lines::two_way_text(second)),
+    };
 }
 
+// A type that is missing counts as 0.
 fn hash_type(octets: &[u8]) -> u32 {
-    if octets.len() < 1 {
-        0
-    } else {
-        number(octets[0])
-    }
-}
-
-fn number(x: u8) -> u32 {
-    x as u32
+    octets.first().map_or(0, |x| u32::from(*x))
 }

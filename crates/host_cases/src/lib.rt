@@ -1,20 +1,28 @@
-// The calls of the host's interface that more than one test program makes, each with the line that it prints. An interface is
-// passed by value, and its parts are lent only to the call itself.
+// The calls of the host's interface that more than one test program makes, each with the line that it prints.
 #![tactic(auto)]
 
 ghost use Rattle.std.specs.Prelude.{◌≡◌};
 ghost use Rattle.octets.specs.Prelude.{length};
 ghost use Rattle.interface.specs.States.{Good, state_of};
 
-use case_tools::{digest, print_form};
+use case_tools::{digest, print_form, print_number, print_word};
 use interface::Interface;
+use ring::{Receiving, Sending};
 
 // The interface that a program begins with is as setup with one queue leaves it.
 pub fn first_interface() -> Interface
     ensures { Good (state_of result) }
 {
     Interface {
-        numbers: [1, 0, 1, 0, 0, 0, 0, 0],
+        queues: 1,
+        flags: 0,
+        entry_count: 1,
+        incoming: Receiving { taken: 0, cons: 0 },
+        outgoing: Sending {
+            length: 0,
+            written: 0,
+            prod: 0,
+        },
         header: [0; messages::HEADER],
         payload: [0; messages::MAX_PAYLOAD],
         ack: [0; messages::MAX_ACK],
@@ -24,94 +32,32 @@ pub fn first_interface() -> Interface
 }
 
 // A new interface with a queue count. Where that is refused, the one that there is stays.
-pub fn set_up(i: Interface, body: &[u8]) -> Interface
-    requires { Good (state_of i) }
-    ensures { Good (state_of result) }
+pub fn set_up(i: &mut Interface, body: &[u8])
+    requires { Good (state_of i.old) }
+    ensures { Good (state_of i.new) }
 {
     if body.len() < 4 {
         cases::print_cut();
-        return i;
+        return;
     }
-    set_up_with(i, octets::read_u32(body, 0))
-}
-
-fn set_up_with(i: Interface, queues: u32) -> Interface
-    requires { Good (state_of i) }
-    ensures { Good (state_of result) }
-{
-    let mut numbers = i.numbers;
-    let mut header = i.header;
-    let mut payload = i.payload;
-    let mut ack = i.ack;
-    let mut key = i.key;
-    let mut entries = i.entries;
-    print_set_up(interface::set_up(
-        &mut numbers,
-        &mut header,
-        &mut payload,
-        &mut ack,
-        &mut key,
-        &mut entries,
-        queues,
-    ));
-    Interface {
-        numbers,
-        header,
-        payload,
-        ack,
-        key,
-        entries,
-    }
-}
-
-fn print_set_up(answer: u32) {
-    if answer == interface::SET_UP {
-        case_tools::print_word(b"set up\n");
-    } else {
-        print_form(b"refused #\n", &[answer as u64]);
+    match i.set_up(octets::read_u32(body, 0)) {
+        Ok(()) => print_word(b"set up\n"),
+        Err(refusal) => print_form(b"refused #\n", &[u32::from(refusal) as u64]),
     }
 }
 
 // An event on so many octets of the buffer. The line has all octets, those behind the lent ones too.
-pub fn event(i: Interface, page: &mut [u8], body: &[u8]) -> Interface
-    requires { Good (state_of i) }
-    ensures { Good (state_of result) }
+pub fn event(i: &mut Interface, page: &mut [u8], body: &[u8])
+    requires { Good (state_of i.old) }
+    ensures { Good (state_of i.new) }
 {
     let n = cases::number_up_to(page.len(), body);
-    let left = event_on(i, &mut page[0..n]);
-    print_left(&left, &page[..]);
-    left
-}
-
-// Makes the call, and prints what it answers.
-fn event_on(i: Interface, page: &mut [u8]) -> Interface
-    requires { Good (state_of i) }
-    ensures { Good (state_of result) }
-{
-    let mut numbers = i.numbers;
-    let mut header = i.header;
-    let mut payload = i.payload;
-    let mut ack = i.ack;
-    let mut key = i.key;
-    let mut entries = i.entries;
-    let answer = backend::event(
-        &mut numbers,
-        &mut header,
-        &mut payload,
-        &mut ack,
-        &mut key,
-        &mut entries,
-        page,
-    );
-    case_tools::print_number(b"answer ", answer as u64);
-    Interface {
-        numbers,
-        header,
-        payload,
-        ack,
-        key,
-        entries,
-    }
+    let answer = match backend::event(i, &mut page[0..n]) {
+        Ok(progress) => u32::from(progress),
+        Err(refusal) => u32::from(refusal),
+    };
+    print_number(b"answer ", answer as u64);
+    print_left(i, &page[..]);
 }
 
 // The rest of the line: the interface's own counts, all octets of the buffer, and the settings but for the queue count.
@@ -119,11 +65,11 @@ fn print_left(i: &Interface, page: &[u8]) {
     print_form(
         b" req_cons # rsp_prod # page $ flags # entries # key $ table $\n",
         &[
-            i.numbers[interface::OWN_REQ_CONS],
-            i.numbers[interface::OWN_RSP_PROD],
+            i.incoming.cons,
+            i.outgoing.prod,
             digest(page),
-            i.numbers[interface::FLAGS],
-            i.numbers[interface::ENTRY_COUNT],
+            i.flags,
+            i.entry_count,
             digest(&i.key),
             digest(&i.entries),
         ],
@@ -131,15 +77,10 @@ fn print_left(i: &Interface, page: &[u8]) {
 }
 
 // Takes the interface's own counts from the page, so that a case can begin near their end.
-pub fn recount(i: Interface, page: &[u8]) -> Interface
-    requires { Good (state_of i) × (length page.now ≡ 4160) }
-    ensures { Good (state_of result) }
+pub fn recount(i: &mut Interface, page: &[u8])
+    requires { Good (state_of i.old) × (length page.now ≡ 4160) }
+    ensures { Good (state_of i.new) }
 {
-    let n = i.numbers;
-    let req_cons = octets::read_u32(page, page::REQ_CONS) as u64;
-    let rsp_prod = octets::read_u32(page, page::RSP_PROD) as u64;
-    let numbers = [n[0], n[1], n[2], n[3], req_cons, n[5], n[6], rsp_prod];
-    let mut left = i;
-    left.numbers = numbers;
-    left
+    i.incoming.cons = octets::read_u32(page, page::REQ_CONS) as u64;
+    i.outgoing.prod = octets::read_u32(page, page::RSP_PROD) as u64;
 }

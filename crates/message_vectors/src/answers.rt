@@ -1,32 +1,30 @@
 // The lines that the program prints.
-use crate::Settings;
 use case_tools::{digest, print_form, print_number};
 use guest_messages::{AckRead, NotAnAck, WriteRefusal};
+use interface::Interface;
 
 // Where printed text goes.
 const STDOUT: i32 = 1;
 
 // The octets of the ack, and the settings left.
-pub(crate) fn print_carried(left: &Settings, ack_length: u64, ack: &[u8; messages::MAX_ACK]) {
-    print_form(b"ack # ", &[ack_length]);
-    print_octets(ack);
+pub(crate) fn print_carried(i: &Interface) {
+    print_form(b"ack # ", &[i.outgoing.length]);
+    print_octets(&i.ack);
     print_form(
         b" queues # flags # entries # key $ table $\n",
         &[
-            left.queues as u64,
-            left.flags as u64,
-            left.count as u64,
-            digest(&left.key),
-            digest(&left.entries),
+            i.queues,
+            i.flags,
+            i.entry_count,
+            digest(&i.key),
+            digest(&i.entries),
         ],
     );
 }
 
 fn print_octets(octets: &[u8]) {
-    let mut i: usize = 0;
-    while i < octets.len() {
-        io::print_hex(STDOUT, cases::wide(octets[i]) as u64, 2);
-        i += 1;
+    for octet in octets {
+        io::print_hex(STDOUT, u64::from(*octet), 2);
     }
 }
 

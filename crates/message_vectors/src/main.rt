@@ -2,12 +2,14 @@
 // one interface, one after the other.
 #![tactic(auto)]
 
+ghost use Rattle.std.specs.Prelude.{◌≡◌, ◌^◌, ◌≤◌, ◌<◌};
+ghost use Rattle.octets.specs.Prelude.{length};
+
 mod answers;
 
-use cases::print_cut;
+use cases::{Cases, print_cut};
 use guest_messages::WriteRefusal;
-use messages::{MAX_ENTRIES, MAX_PAYLOAD};
-use toeplitz::KEY_LENGTH;
+use interface::Interface;
 
 // The kinds: a new interface with a queue count, a request carried out, the writer's four calls, and an ack read.
 const SET_UP: u8 = 0;
@@ -25,105 +27,61 @@ const READ: u8 = 6;
 // The longest output buffer of a case.
 const MAX_BUFFER: usize = 1100;
 
-// The settings of an interface.
-#[derive(Drop)]
-pub(crate) struct Settings {
-    queues: u8,
-    flags: u8,
-    count: u8,
-    key: [u8; KEY_LENGTH],
-    entries: [u8; MAX_ENTRIES],
-}
-
 fn main(rt: HostRuntime) {
     let mut buffer = io::large_buffer();
-    let mut settings = at_setup(1);
+    let mut i = at_setup(1);
     for part in 0..cases::PARTS {
         // A file that is not there has no case.
         let n = cases::load_part(&rt, part, &mut buffer);
-        settings = run(settings, &buffer[..n]);
+        run(&mut i, &buffer[..n]);
     }
 }
 
-// No flags, and a mapping of one entry.
-fn at_setup(queues: u8) -> Settings {
-    Settings {
-        queues,
-        flags: 0,
-        count: 1,
-        key: [0; KEY_LENGTH],
-        entries: [0; MAX_ENTRIES],
+// An interface with any queue count, with no flags and a mapping of one entry.
+fn at_setup(queues: u8) -> Interface
+    ensures { result.queues ≡ queues }
+{
+    Interface {
+        queues: u64::from(queues),
+        ..host_cases::first_interface()
     }
 }
 
 // Runs the cases of one file on the settings that those before it left.
-fn run(first: Settings, cases: &[u8]) -> Settings {
-    let mut settings = first;
-    let mut at: usize = 0;
-    while at < cases.len() {
-        let taken = cases::take_case(cases, at);
-        let start = taken.start;
-        let end = taken.end;
-        settings = answer(settings, taken.kind, &cases[start..end]);
-        at = end;
+fn run(i: &mut Interface, cases: &[u8])
+    requires { i.old.queues < 2 ^ 8 }
+    ensures { i.new.queues < 2 ^ 8 }
+{
+    for case in (Cases { rest: cases }) {
+        answer(i, case.kind, case.body);
     }
-    settings
 }
 
 // Answers one case.
-fn answer(settings: Settings, kind: u8, body: &[u8]) -> Settings {
-    if kind == SET_UP && body.len() > 0 {
-        return at_setup(body[0]);
+fn answer(i: &mut Interface, kind: u8, body: &[u8])
+    requires { i.old.queues < 2 ^ 8 }
+    ensures { i.new.queues < 2 ^ 8 }
+{
+    match kind {
+        SET_UP if body.len() > 0 => *i = at_setup(body[0]),
+        REQUEST if body.len() >= messages::HEADER => request(i, body),
+        WRITE_GET_FLAGS..=WRITE_SET_MAPPING => write(kind, body),
+        READ => read(body),
+        _ => {}
     }
-    if kind == REQUEST {
-        return request(settings, body);
-    }
-    if WRITE_GET_FLAGS <= kind && kind <= WRITE_SET_MAPPING {
-        write(kind, body);
-    } else if kind == READ {
-        read(body);
-    }
-    settings
 }
 
-// Type, size and kept payload.
-fn request(settings: Settings, body: &[u8]) -> Settings {
-    if body.len() < 8 {
-        return settings;
-    }
-    let kind = octets::read_u32(body, 0);
-    let size = octets::read_u32(body, 4);
+// Header and kept payload.
+fn request(i: &mut Interface, body: &[u8])
+    requires { (i.old.queues < 2 ^ 8) × (8 ≤ length body.now) }
+    ensures { i.new.queues < 2 ^ 8 }
+{
+    i.header.copy_from_slice(&body[0..messages::HEADER]);
     // What stands behind the payload in the buffer is not to be looked at.
-    let mut payload = [238; MAX_PAYLOAD];
-    cases::keep(&mut payload, &body[8..]);
-    carry_out(settings, kind, size, &payload)
-}
-
-fn carry_out(settings: Settings, kind: u32, size: u32, payload: &[u8; MAX_PAYLOAD]) -> Settings {
-    let queues = settings.queues;
-    let mut key = settings.key;
-    let mut entries = settings.entries;
-    let mut ack = [0; messages::MAX_ACK];
-    let carried = requests::carry_out(
-        queues,
-        settings.flags,
-        settings.count,
-        &mut key,
-        &mut entries,
-        kind,
-        size,
-        payload,
-        &mut ack,
-    );
-    let left = Settings {
-        queues,
-        flags: carried.flags,
-        count: carried.count,
-        key,
-        entries,
-    };
-    answers::print_carried(&left, carried.ack_length as u64, &ack);
-    left
+    i.payload = [238; messages::MAX_PAYLOAD];
+    cases::keep(&mut i.payload, &body[messages::HEADER..]);
+    requests::carry_out(i);
+    answers::print_carried(i);
 }
 
 // The length of the output buffer, and what the request is to say. Octets that are not zero stand in the buffer before.

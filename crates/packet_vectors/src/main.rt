@@ -2,10 +2,8 @@
 // goes under the settings before it.
 #![tactic(auto)]
 
-ghost use Rattle.std.specs.Prelude.{◌≤◌};
-ghost use Rattle.octets.specs.Prelude.{length};
-
 use case_tools::{print_number, print_word};
+use cases::{Cases, Kept};
 use packet::Found;
 
 // The kinds: settings for the packets behind them, and a packet.
@@ -23,49 +21,27 @@ const MOST: usize = 169;
 
 fn main(rt: HostRuntime) {
     let mut buffer = io::large_buffer();
-    let mut settings = [0u8; MOST];
-    let mut kept: usize = 0;
+    let mut settings: Kept<MOST> = Kept::none();
     for part in 0..cases::PARTS {
         // A file that is not there has no case.
         let n = cases::load_part(&rt, part, &mut buffer);
-        kept = run(&buffer[..n], &mut settings, kept);
+        run(&buffer[..n], &mut settings);
     }
 }
 
-// Runs the cases of one file. So many octets of the settings are kept from the files before it; answers how many are
-// kept for those behind it.
-fn run(cases: &[u8], settings: &mut [u8], before: usize) -> usize
-    requires { before ≤ length settings.old }
-    ensures { result ≤ length settings.new }
-{
-    let mut kept = before;
-    let mut at: usize = 0;
-    while at < cases.len() {
-        let taken = cases::take_case(cases, at);
-        let start = taken.start;
-        let end = taken.end;
-        kept = act(settings, kept, taken.kind, &cases[start..end]);
-        at = end;
+// Runs the cases of one file under the settings that those before it left.
+fn run(cases: &[u8], settings: &mut Kept<MOST>) {
+    for case in (Cases { rest: cases }) {
+        match case.kind {
+            SETTINGS => settings.keep(case.body),
+            PACKET => print_answer(settings.octets(), case.body),
+            _ => {}
+        }
     }
-    kept
-}
-
-// Keeps settings or answers a packet, and answers how many octets of the settings are kept.
-fn act(settings: &mut [u8], kept: usize, kind: u8, body: &[u8]) -> usize
-    requires { kept ≤ length settings.old }
-    ensures { result ≤ length settings.new }
-{
-    if kind == SETTINGS {
-        return cases::keep(settings, body);
-    }
-    if kind == PACKET {
-        answer(&settings[0..kept], body);
-    }
-    kept
 }
 
 // Before the first settings there are none, and a table has an entry.
-fn answer(settings: &[u8], packet: &[u8]) {
+fn print_answer(settings: &[u8], packet: &[u8]) {
     if settings.len() <= TABLE_AT {
         cases::print_cut();
         return;

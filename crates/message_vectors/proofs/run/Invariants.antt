@@ -1,8 +1,6 @@
-use Rattle.octets.specs.Prelude.{◌≤◌, ◌-◌, length}
+-- No case leaves a queue count that takes more than an octet.
+use Rattle.octets.specs.Prelude.{◌^◌, ◌<◌}
 use Rattle.message_vectors.proofs.run.Given as goal
 
-abbrev pub invariant-loop-at : goal.invariant-loop-at
-invariant-loop-at l = l.at ≤ length l.cases
-
-abbrev pub decreases-loop-at : goal.decreases-loop-at
-decreases-loop-at l = length l.cases - l.at
+abbrev pub invariant-loop-case : goal.invariant-loop-case
+invariant-loop-case l = l.i.queues < 2 ^ 8

@@ -1,11 +1,11 @@
--- `host_cases::set_up_with` meets its contract: setup gives a good interface, or leaves the one that there is.
+-- `host_cases::set_up` meets its contract: setup gives a good interface, or leaves the one that there is.
 use Rattle.octets.specs.Prelude.{◌≡◌, ◌&&◌, ℕ, leb, leb-true}
 use Rattle.octets.specs.Outcome.{Outcome, placed, itself}
 use Rattle.octets.proofs.Truth.{both_true, by-test}
 use Rattle.messages.specs.Settings.{max_queues}
 use Rattle.interface.specs.States.{HostState, Good, state_of, set_up_outcome}
 use Rattle.backend.proofs.Goodness.{good-interface}
-use Rattle.host_cases.proofs.set_up_with.Goals as goal
+use Rattle.host_cases.proofs.set_up.Goals as goal
 
 placed-good : (q : ℕ) (s t : HostState) → Good s → t ≡ placed itself (set_up_outcome q) s → Good t
 unfolding set_up_outcome
@@ -15,5 +15,5 @@ placed-good q s t good left =
     (λ e. let x = (both_true (leb 1 q) (leb q max_queues)).0 e in good-interface q (leb-true _ _ x.0) (leb-true _ _ x.1))
     (λ e. good))
 
-pub returns : goal.returns
-returns c = placed-good c.args.queues (state_of c.args.i) _ c.requires c.set_up.ensures.1
+pub returns-in-Ok : goal.returns-in-Ok
+returns-in-Ok c = placed-good c.read_u32.result (state_of c.args.i.now) _ c.requires c.set_up.ensures.1

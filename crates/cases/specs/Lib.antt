@@ -1,0 +1,2 @@
+-- What a run over the cases of a file promises.
+pub mod Taking

@@ -1,9 +1,0 @@
--- `hash_vectors::run` ends and reads no octet outside: each case ends behind its start.
-use Rattle.octets.specs.Prelude.{◌≤◌, ◌-◌, length}
-use Rattle.hash_vectors.proofs.run.Given as goal
-
-abbrev pub invariant-loop-at : goal.invariant-loop-at
-invariant-loop-at l = l.at ≤ length l.cases
-
-abbrev pub decreases-loop-at : goal.decreases-loop-at
-decreases-loop-at l = length l.cases - l.at
