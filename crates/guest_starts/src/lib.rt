@@ -5,7 +5,7 @@ ghost use Rattle.std.specs.Prelude.{◌≡◌, ◌≤◌, IfOk};
 ghost use Rattle.octets.specs.Prelude.{length};
 ghost use Rattle.page.specs.Page.{page_size, area_size};
 ghost use Rattle.guest_messages.specs.Writer.{after, written};
-ghost use Rattle.guest_steps.specs.Guest.{max_request, outstanding, guest_of, state_of};
+ghost use Rattle.guest_steps.specs.Guest.{max_request, outstanding, state_of};
 ghost use Rattle.guest_steps.specs.Calls.{found, wrote_on, message_of, readied, left};
 ghost use Rattle.guest_steps.specs.Inner.{CountsFit, readiness_of};
 
@@ -43,7 +43,7 @@ pub fn begin(guest: &mut Guest, n: usize, room: u32, page: &mut [u8]) -> Progres
     requires page_len { (length page.old ≡ page_size) × (room ≤ area_size) × (n ≤ max_request) }
     requires counts_fit { CountsFit (state_of guest.old) }
     ensures { let g = state_of guest.old in left (Ok result) (state_of guest.new) page.new
-        ≡ wrote_on (guest_of outstanding g.request n 0 g.req_prod g.header g.payload g.taken g.rsp_cons) page.old room }
+        ≡ wrote_on (record g { phase = outstanding; length = n; written = 0 }) page.old room }
 {
     guest.phase = OUTSTANDING;
     guest.outgoing.length = n as u64;
