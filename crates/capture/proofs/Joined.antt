@@ -1,6 +1,7 @@
 -- Octets joined to one number as `Order::number_at` does, each below those before it.
 use Rattle.std.specs.Prelude.{fold, reverse}
-use Rattle.octets.specs.Prelude.{◌≡◌, refl, sym, ap, ◌∙◌, List, [], ◌∷◌, ◌++◌, ℕ, suc, ◌+◌, ◌*◌, ◌%◌, ◌^◌, ◌≤◌, ◌<◌, add-zero, zero-add, add_assoc, pow-suc, arith}
+use Rattle.octets.specs.Prelude.{◌≡◌, refl, sym, ap, ◌∙◌, List, [], ◌∷◌, ◌++◌, ℕ, suc, ◌+◌, ◌*◌, ◌%◌, ◌^◌, ◌≤◌, ◌<◌}
+use Rattle.octets.specs.Prelude.{add-zero, zero-add, add_assoc, pow-suc, arith}
 use Rattle.octets.specs.Prelude.{length, get_or, take, drop, length-take-le, length-drop, get_or-take, get_or-drop}
 use Rattle.std.specs.Int.Bits.{bit_or}
 use Rattle.std.proofs.lemmas.List.Sums.{fold-append}
@@ -39,7 +40,8 @@ one_more x xs k =
     let next : 1 + k ≡ suc k = omega arith in
     rw (next, zero-add) refl
 
-pub joined-high : (xs : List ℕ) (a m : ℕ) → Octets xs → a < 256 ^ m → m + length xs ≤ 4 → fold joined a xs ≡ a * 256 ^ length xs + big_endian_at (length xs) xs 0
+pub joined-high : (xs : List ℕ) (a m : ℕ) → Octets xs → a < 256 ^ m → m + length xs ≤ 4
+    → fold joined a xs ≡ a * 256 ^ length xs + big_endian_at (length xs) xs 0
 unfolding big_endian_at
 joined-high [] a m o small h = omega arith
 joined-high (x ∷ xs) a m o small h =
@@ -64,7 +66,9 @@ joined-low (x ∷ xs) o h =
     let further = joined-low xs (λ i k. o (suc i) (omega arith)) (omega arith) in
     let small = number-low xs (λ i k. o (suc i) (omega arith)) in
     let last : fold joined 0 (reverse xs ++ x ∷ []) ≡ joined (fold joined 0 (reverse xs)) x = fold-append joined 0 (reverse xs) (x ∷ []) in
-    rw (reverse_onto xs x [], last, further, joined-is _ x (length xs) small (omega arith) l, number-suc (length xs) (x ∷ xs) 0, number_same (length xs) (x ∷ xs) xs 1 0 (λ k _. one_more x xs k)) (omega arith)
+    let is = joined-is _ x (length xs) small (omega arith) l in
+    let behind = number_same (length xs) (x ∷ xs) xs 1 0 (λ k _. one_more x xs k) in
+    rw (reverse_onto xs x [], last, further, is, number-suc (length xs) (x ∷ xs) 0, behind) (omega arith)
 
 -- the n octets from a place on
 module _ (s : List ℕ) (at n : ℕ) (octets : (i : ℕ) → get_or s i 0 < 256) (inside : at + n ≤ length s) (few : n ≤ 4) where

@@ -9,7 +9,8 @@ use Rattle.capture.specs.declared.RecordWrong.{RecordWrong}
 use Rattle.capture.specs.declared.reader.Reader.{Reader}
 use Rattle.capture.proofs.Found.{found-record, found-some}
 
-pub reads-less : (s : Reader) (gives : Option (Result Record RecordWrong)) (t : Reader) → Reads s gives t → MakesProgress (λ _. ⊤) (λ (r : Reader). at_most (octets_left r)) s gives t
+pub reads-less : (s : Reader) (gives : Option (Result Record RecordWrong)) (t : Reader) → Reads s gives t
+    → MakesProgress (λ _. ⊤) (λ (r : Reader). at_most (octets_left r)) s gives t
 reads-less s None t reads = record { on = λ _. tt; keeps = tt; rests = λ _. tt }
 reads-less s (Some (Ok r)) t reads =
     let f = found-record s.capture.now s.at r.start r.end (sym reads.step) in

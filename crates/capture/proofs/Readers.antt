@@ -1,6 +1,7 @@
 -- What proofs by hand of the functions over a `Reader` share, which the check finds itself now. The code of each does what a course says
 -- (`Forward.antt` of the crate `lending`).
 --     D, L, B          the struct's type at a signature's one lifetime: as declared, its laws, and as a row
+--     Step             what a reader gives at a place, as a row
 --     a-reader         how a `Reader` is spelled
 --     reader-typed, step_typed     the machine value of a `Reader`, whatever name the lifetime has, and of a `Step` has its type
 --     number           what a `usize` owns is a fact alone, so it is had for nothing
@@ -43,6 +44,7 @@ L κs = T'.the_laws (named_lft 1 0 tt κs)
 abbrev pub B : Lfts 1 → RattleType
 B κs = T.the_row (named_lft 1 0 tt κs)
 
+-- a record or that it is wrong, and what a reader gives at a place: one of these, or nothing
 abbrev pub Tried : RattleType
 Tried = ResultOf S.the_row W.the_row
 

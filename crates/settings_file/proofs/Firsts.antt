@@ -43,7 +43,9 @@ module _ (xs header rest : List ℕ) (size : ℕ) (head : header ≡ take header
         kind = ap type_in (same ∙ head) ∙ number_same 4 (take header_size xs) xs 0 0 (λ k l. get_or-take header_size xs (0 + k) 0 (omega arith))
 
         carried : carried_in before ≡ carried_message before.settings (first_message xs) []
-        carried = rw (kind, same, ← sized, size-told) (first-carried before.settings xs before.incoming.message.payload whole (rw (size-told, behind) at keeps))
+        carried =
+            let kept = rw (size-told, behind) at keeps in
+            rw (kind, same, ← sized, size-told) (first-carried before.settings xs before.incoming.message.payload whole kept)
 
         settings : after.settings ≡ (carried_in before).settings
         unfolding carried_over
@@ -61,12 +63,14 @@ module _ (xs header rest : List ℕ) (size : ℕ) (head : header ≡ take header
             let m = before.incoming.message in
             rw settings (good-stays-good before.settings (type_in m.header) (size_in m.header) m.payload good (omega (arith, keeps.size)))
 
-        pub first-refused : (number_at field_size after.outgoing.octets header_size ≡ success → ⊥) → settings_from before.settings xs ≡ refused settings_wrong
+        pub first-refused : (number_at field_size after.outgoing.octets header_size ≡ success → ⊥)
+            → settings_from before.settings xs ≡ refused settings_wrong
         first-refused h = from-refused before.settings xs whole (λ e. h (status ∙ e))
 
         pub first-done : number_at field_size after.outgoing.octets header_size ≡ success → GoesOn before.settings xs after.settings (drop size rest)
         first-done e =
             record {
               fewer = omega (arith, length-drop size rest, left-behind);
-              same = rw (settings, carried, behind, size-told, drop-drop (size_in xs) header_size xs) (from_next before.settings xs whole (sym status ∙ e));
+              same = rw (settings, carried, behind, size-told, drop-drop (size_in xs) header_size xs)
+                  (from_next before.settings xs whole (sym status ∙ e));
             }

@@ -1,5 +1,6 @@
 -- The fewest digits that hold a number: `places_in` counts the decimal ones, and a bound on the number bounds them.
-use Rattle.octets.specs.Prelude.{◌≡◌, ◌∙◌, ap, List, take, length, length-take, ℕ, zero, suc, ◌-◌, ◌/◌, ◌^◌, ◌<◌, ◌≤◌, pow-suc, dec_lt, arith, lt-ltb, le-ltb}
+use Rattle.octets.specs.Prelude.{◌≡◌, ◌∙◌, ap, List, take, length, length-take, ℕ, zero, suc, ◌-◌, ◌/◌, ◌^◌, ◌<◌, ◌≤◌, pow-suc}
+use Rattle.octets.specs.Prelude.{dec_lt, arith, lt-ltb, le-ltb}
 use native.Mathlib.Nat.{pow-le-pow_right}
 use Rattle.io.specs.Digits.{IsDigitCount, last_digits}
 use Rattle.text.specs.Ascii.{places_in, decimal, hex8}

@@ -17,28 +17,36 @@ returns-then-rest-size-clause-wrong c =
 
 pub returns-then-read_u64-clause-good : goal.returns-then-read_u64-clause-good
 returns-then-read_u64-clause-good c =
+    let xs = c.args.octets.now in
+    let rest = c.in-Some.rest.now in
     let parts = c.in-Some.ensures.cases in
     let kept = rw c.split_at.ensures.front at c.keep.ensures in
-    good-left c.args.octets.now _ c.in-Some.rest.now _ parts.0 parts.1 c.read_u32-size.ensures _ (omega (arith, parts.2)) c.if-rest-size.false refl kept
+    good-left xs _ rest _ parts.0 parts.1 c.read_u32-size.ensures _ (omega (arith, parts.2)) c.if-rest-size.false refl kept
     c.requires.0 _ c.carry_out.ensures
 
 pub returns-then-read_u64-clause-wrong : goal.returns-then-read_u64-clause-wrong
 returns-then-read_u64-clause-wrong c =
+    let xs = c.args.octets.now in
+    let rest = c.in-Some.rest.now in
     let parts = c.in-Some.ensures.cases in
     let kept = rw c.split_at.ensures.front at c.keep.ensures in
-    first-refused c.args.octets.now _ c.in-Some.rest.now _ parts.0 parts.1 c.read_u32-size.ensures _ (omega (arith, parts.2)) c.if-rest-size.false refl kept
+    first-refused xs _ rest _ parts.0 parts.1 c.read_u32-size.ensures _ (omega (arith, parts.2)) c.if-rest-size.false refl kept
     c.requires.0 _ c.carry_out.ensures (rw c.read_u64.ensures at c.if-read_u64.true)
 
 pub returns-clause-good : goal.returns-clause-good
 returns-clause-good c =
+    let xs = c.args.octets.now in
+    let rest = c.in-Some.rest.now in
     let parts = c.in-Some.ensures.cases in
     let kept = rw c.split_at.ensures.front at c.keep.ensures in
-    good-left c.args.octets.now _ c.in-Some.rest.now _ parts.0 parts.1 c.read_u32-size.ensures _ (omega (arith, parts.2)) c.if-rest-size.false refl kept
+    good-left xs _ rest _ parts.0 parts.1 c.read_u32-size.ensures _ (omega (arith, parts.2)) c.if-rest-size.false refl kept
     c.requires.0 _ c.carry_out.ensures
 
 pub returns-clause-next : goal.returns-clause-next
 returns-clause-next c =
+    let xs = c.args.octets.now in
+    let rest = c.in-Some.rest.now in
     let parts = c.in-Some.ensures.cases in
     let kept = rw c.split_at.ensures.front at c.keep.ensures in
-    rw c.split_at.ensures.back (first-done c.args.octets.now _ c.in-Some.rest.now _ parts.0 parts.1 c.read_u32-size.ensures _ (omega (arith, parts.2))
+    rw c.split_at.ensures.back (first-done xs _ rest _ parts.0 parts.1 c.read_u32-size.ensures _ (omega (arith, parts.2))
     c.if-rest-size.false refl kept c.requires.0 _ c.carry_out.ensures (rw c.read_u64.ensures at c.if-read_u64.false))

@@ -6,4 +6,5 @@ use Rattle.report.proofs.Counts.none.Goals as goal
 
 pub returns : goal.returns
 returns c =
-    rw (c.truncate.ensures.items, c.from-tallies.ensures.0, blank _ c.default.ensures, blank _ c.default-2.ensures, take-replicate c.args.queues 64 _ c.requires) refl
+    let alike = take-replicate c.args.queues 64 _ c.requires in
+    rw (c.truncate.ensures.items, c.from-tallies.ensures.0, blank _ c.default.ensures, blank _ c.default-2.ensures, alike) refl
