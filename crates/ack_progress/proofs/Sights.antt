@@ -1,5 +1,5 @@
 -- An ack put together: a payload put behind a header, over the octets that stood there, and n octets of it behind the header.
-use Rattle.octets.specs.Prelude.{◌≡◌, refl, List, [], ◌++◌, append-nil, ℕ, ◌+◌, arith, length, take}
+use Rattle.octets.specs.Prelude.{◌≡◌, List, [], ◌++◌, append-nil, ℕ, ◌+◌, arith, length, take}
 use Rattle.octets.specs.Prelude.{drop, drop_of_length-le, take_at, drop_at, take-append-add}
 use borrow.Rule.Slice.PartMut.{put_mid}
 use Rattle.messages.specs.Wire.{header_size}

@@ -8,7 +8,7 @@ ghost use Rattle.guest_messages.specs.Reader.{status_allowed, ack_size, read_ack
 
 use guest_messages::{AckRead, NotAnAck};
 use messages::{
-    ACK_TYPE, ALL_FLAGS, BUFFER_OVERFLOW, FIELD, GET_FLAGS, HEADER, NOT_SUPPORTED, SET_MAPPING,
+    ACK_TYPE, ALL_FLAGS, BUFFER_OVERFLOW, FIELD, GET_FLAGS, HEADER, NOT_SUPPORTED, RequestType,
     SIZE_AT, SUCCESS,
 };
 
@@ -43,9 +43,9 @@ pub fn read_ack(kind: u32, message: &[u8]) -> Result<AckRead, NotAnAck>
 fn is_allowed(kind: u32, status: u64) -> bool
     ensures { result ≡ status_allowed (request_of kind) status }
 {
-    match kind {
-        GET_FLAGS..=SET_MAPPING => status <= BUFFER_OVERFLOW as u64,
-        _ => status == NOT_SUPPORTED as u64,
+    match RequestType::try_from(kind) {
+        Ok(_) => status <= BUFFER_OVERFLOW as u64,
+        Err(_) => status == NOT_SUPPORTED as u64,
     }
 }
 

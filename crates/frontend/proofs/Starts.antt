@@ -96,20 +96,14 @@ module _ (ask : Ask) (request buffer : List ℕ) where
   refused-by Value long e = refuses (message_of ask) request buffer (Err Value) e value_not_listed (λ x. omega (arith, x)) refl
   refused-by Buffer long e = absurd (has-place (message_of ask) request buffer (Err Buffer) e (asks ask) long refl)
 
--- a start, by what it finds: it is stopped
-module _ (o : Outcome (List ℕ)) (g : GuestState) (page : List ℕ) where
-  pub starts-stopped : (k : ℕ) → refused k ≡ readied (found g page) g → refused_with k g page ≡ start_of o g page
-  unfolding start_by
-  starts-stopped k stopped = rw (← stopped) refl
+-- a start that has room: the writer refuses the request, or it begins
+module _ (o : Outcome (List ℕ)) (g : GuestState) (page : List ℕ) (room : ℕ) (there : value room ≡ readied (found g page) g) where
+  pub starts-refused : (k : ℕ) → o ≡ refused k → refused_with k g page ≡ start_of o g page
+  unfolding start_by started_by
+  starts-refused k e = rw (← there, e) refl
 
-  -- or it has room: the writer refuses the request, or it begins
-  module _ (room : ℕ) (there : value room ≡ readied (found g page) g) where
-    pub starts-refused : (k : ℕ) → o ≡ refused k → refused_with k g page ≡ start_of o g page
-    unfolding start_by started_by
-    starts-refused k e = rw (← there, e) refl
-
-    pub starts_with : (n : ℕ) (buffer : List ℕ) → Wrote o g.request n buffer
-        → wrote_on (guest_of outstanding buffer n 0 g.req_prod g.header g.payload g.taken g.rsp_cons) page room
-        ≡ start_of o g page
-    unfolding start_by started_by
-    starts_with n buffer w = rw (w.octets, w.size, ← there, w.is) refl
+  pub starts_with : (n : ℕ) (buffer : List ℕ) → Wrote o g.request n buffer
+      → wrote_on (guest_of outstanding buffer n 0 g.req_prod g.header g.payload g.taken g.rsp_cons) page room
+      ≡ start_of o g page
+  unfolding start_by started_by
+  starts_with n buffer w = rw (w.octets, w.size, ← there, w.is) refl

@@ -2,10 +2,9 @@
 use Rattle.octets.specs.Prelude.{◌≡◌, refl, List, true, false, ℕ, ◌≤◌, ◌<◌, arith, length, eqb, eqb-true, eqb-false}
 use Rattle.octets.specs.Outcome.{Outcome, value, refused}
 use Rattle.octets.proofs.Truth.{by-test}
-use Rattle.octets.proofs.Outcomes.{value_same, value-not-refused}
 use Rattle.messages.specs.Wire.{type_in}
 use Rattle.messages.specs.Requests.{request_of}
-use Rattle.page.specs.Page.{page_size, area_size}
+use Rattle.page.specs.Page.{page_size}
 use Rattle.page.proofs.Tests.{RefusedBy, by_tests}
 use Rattle.ring.specs.Reading.{whole}
 use Rattle.guest_messages.specs.Refusals.{not_an_ack}
@@ -17,12 +16,6 @@ use Rattle.guest_steps.specs.Calls.{After, Found, unread_requests, unread_acks, 
 use Rattle.guest_steps.specs.Calls.{readied, start_by, start_of, size_wrong, message_octets, Seen, part, judged, seen, done_with, concluded}
 use Rattle.guest_steps.specs.Calls.{read_on, event_by, event_of}
 use Rattle.frontend.specs.Rules.{Accepted, room, after_reading}
-
--- what a call finds keeps to the areas of a whole page
-pub record Within (page : List ℕ) (f : Found) : Type 0 where
-  pub size : length page ≡ page_size
-  pub room : f.room ≤ area_size
-  pub unread : f.unread ≤ area_size
 
 -- what a call leaves: all as it was where it is refused, but for an ack that the reader refuses; the own counts written back where
 -- it is answered; and octets of a request written before that, by a guest t. K is what is assumed of the guest and of the request;
@@ -53,13 +46,6 @@ module _ (g : GuestState) (page : List ℕ) where
       by_tests page (unread_requests g page) (unread_acks g page) P refused _ stopped
       (λ s r a. let ok : Accepted g page = record { size = s; requests = r; responses = a } in
       by-test P (eqb g.phase failed) _ _ (λ f. twelve ok (eqb-true _ _ f)) (λ f. go ok (eqb-false _ _ f)))
-
-  -- the bounds of what is found
-  pub found_within : (f : Found) → value f ≡ found g page → Within page f
-  found_within =
-      found-ways (λ (o : Outcome Found). (f : Found) → value f ≡ o → Within page f) (λ k s f e. absurd (value-not-refused f k e))
-      (λ ok b f e. absurd (value-not-refused f _ e))
-      (λ ok w f e. rw (value_same _ _ e) (record { size = ok.size; room = omega arith; unread = ok.responses }))
 
   -- what is seen of an ack: a part; or it is accepted, and then it is whole; or it is refused, which the reader does by 12
   pub seen-ways : (t : ℕ) (P : Seen → Type 0)

@@ -12,7 +12,11 @@ pub fn set_up(guest: &mut Guest)
 {
     *guest = Guest {
         phase: IDLE,
-        outgoing: Sending { length: 0, written: 0, prod: 0 },
+        outgoing: Sending {
+            length: 0,
+            written: 0,
+            prod: 0,
+        },
         incoming: Receiving { taken: 0, cons: 0 },
         request: [0; MAX_REQUEST],
         header: [0; HEADER],

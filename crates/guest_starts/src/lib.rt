@@ -1,13 +1,13 @@
 // The stages of a start: what it finds, the request put into its place, and the request begun.
 #![tactic(auto)]
 
-ghost use Rattle.std.specs.Prelude.{◌≡◌, ◌^◌, ◌≤◌, ◌<◌, IfOk};
+ghost use Rattle.std.specs.Prelude.{◌≡◌, ◌≤◌, IfOk};
 ghost use Rattle.octets.specs.Prelude.{length};
 ghost use Rattle.page.specs.Page.{page_size, area_size};
 ghost use Rattle.guest_messages.specs.Writer.{after, written};
-ghost use Rattle.guest_steps.specs.Guest.{max_request, outstanding, guest_of, state_of};
+ghost use Rattle.guest_steps.specs.Guest.{max_request, outstanding, state_of};
 ghost use Rattle.guest_steps.specs.Calls.{found, wrote_on, message_of, readied, left};
-ghost use Rattle.guest_steps.specs.Inner.{readiness_of};
+ghost use Rattle.guest_steps.specs.Inner.{CountsFit, readiness_of};
 
 use guest_messages::WriteRefusal;
 use guest_steps::{Ask, Guest, IDLE, OUTSTANDING, Progress, Refusal};
@@ -15,7 +15,7 @@ use guest_steps::{Ask, Guest, IDLE, OUTSTANDING, Progress, Refusal};
 // What a start finds: beside what every call finds, no request may be outstanding.
 #[tactic(auto, unfolding(guest_steps::specs::Calls::readied))]
 pub fn ready(guest: &Guest, page: &[u8]) -> Result<u32, Refusal>
-    requires { (guest.now.outgoing.prod < 2 ^ 32) × (guest.now.incoming.cons < 2 ^ 32) }
+    requires { CountsFit (state_of guest.now) }
     ensures value { let g = state_of guest.now in readiness_of result ≡ readied (found g page.now) g }
     ensures within { IfOk result (λ room. (length page.now ≡ page_size) × (room ≤ area_size)) }
 {
@@ -41,9 +41,9 @@ pub fn write_request(ask: Ask, place: &mut [u8]) -> Result<usize, WriteRefusal>
 // Makes the request of n octets, which is in its place, the outstanding one, and writes as much of it as fits.
 pub fn begin(guest: &mut Guest, n: usize, room: u32, page: &mut [u8]) -> Progress
     requires page_len { (length page.old ≡ page_size) × (room ≤ area_size) × (n ≤ max_request) }
-    requires counts_fit { (guest.old.outgoing.prod < 2 ^ 32) × (guest.old.incoming.cons < 2 ^ 32) }
+    requires counts_fit { CountsFit (state_of guest.old) }
     ensures { let g = state_of guest.old in left (Ok result) (state_of guest.new) page.new
-        ≡ wrote_on (guest_of outstanding g.request n 0 g.req_prod g.header g.payload g.taken g.rsp_cons) page.old room }
+        ≡ wrote_on (record g { phase = outstanding; length = n; written = 0 }) page.old room }
 {
     guest.phase = OUTSTANDING;
     guest.outgoing.length = n as u64;

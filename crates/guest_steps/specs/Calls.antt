@@ -143,9 +143,6 @@ event_by (refused k) g page = refused_with k g page
 abbrev pub event_of : GuestState → List ℕ → After
 event_of g page = event_by (found g page) g page
 
--- what a call answered and left, by its answer or, where that has no values, by its number
+-- what a call answered and left
 abbrev pub left : Result Progress Refusal → GuestState → List ℕ → After
 left r g page = record { answer = told_of r; state = g; page = page }
-
-abbrev pub left_by : ℕ → GuestState → List ℕ → After
-left_by r g page = record { answer = number r; state = g; page = page }

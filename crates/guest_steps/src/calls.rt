@@ -1,10 +1,10 @@
 // What a call of the guest's end finds on the page.
-ghost use Rattle.std.specs.Prelude.{◌≡◌, ◌^◌, ◌≤◌, ◌<◌, IfOk};
+ghost use Rattle.std.specs.Prelude.{◌≡◌, ◌≤◌, IfOk};
 ghost use Rattle.octets.specs.Prelude.{length};
 ghost use Rattle.page.specs.Page.{page_size, area_size};
 ghost use Rattle.guest_steps.specs.Guest.{state_of};
 ghost use Rattle.guest_steps.specs.Calls.{found};
-ghost use Rattle.guest_steps.specs.Inner.{finding_of};
+ghost use Rattle.guest_steps.specs.Inner.{CountsFit, finding_of};
 
 use crate::{Counts, FAILED, Guest, Refusal};
 use page::{AREA, REQ_CONS, RSP_PROD};
@@ -14,7 +14,7 @@ impl Guest {
     // and rsp_cons count, whatever the page says of them.
     #[tactic(auto, unfolding(crate::specs::Calls::found))]
     pub fn find(&self, page: &[u8]) -> Result<Counts, Refusal>
-        requires { (self.now.outgoing.prod < 2 ^ 32) × (self.now.incoming.cons < 2 ^ 32) }
+        requires { CountsFit (state_of self.now) }
         ensures value { finding_of result ≡ found (state_of self.now) page.now }
         ensures within { IfOk result (λ counts. (length page.now ≡ page_size) × (counts.room ≤ area_size) × (counts.unread ≤ area_size)) }
     {

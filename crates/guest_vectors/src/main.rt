@@ -8,6 +8,7 @@ ghost use Rattle.interface.specs.States.{Good, state_of};
 ghost use Rattle.guest_steps.specs.Guest.{Good as GoodGuest, state_of as guest_of};
 
 use case_tools::patch;
+use cases::Cases;
 use guest_cases::new_guest;
 use guest_steps::Guest;
 use interface::Interface;
@@ -34,30 +35,23 @@ fn main(rt: HostRuntime) {
     for part in 0..cases::PARTS {
         // A file that is not there has no case.
         let n = cases::load_part(&rt, part, &mut buffer);
-        interface = run(&mut guest, interface, &mut page, &buffer[..n]);
+        run(&mut guest, &mut interface, &mut page, &buffer[..n]);
     }
 }
 
 // Runs the cases of one file on the ends and the page that those before it left.
-fn run(guest: &mut Guest, first: Interface, page: &mut [u8], cases: &[u8]) -> Interface
-    requires { GoodGuest (guest_of guest.old) × Good (state_of first) × (length page.old ≡ 4160) }
-    ensures { GoodGuest (guest_of guest.new) × Good (state_of result) }
+fn run(guest: &mut Guest, interface: &mut Interface, page: &mut [u8], cases: &[u8])
+    requires { GoodGuest (guest_of guest.old) × Good (state_of interface.old) × (length page.old ≡ 4160) }
+    ensures { GoodGuest (guest_of guest.new) × Good (state_of interface.new) }
 {
-    let mut interface = first;
-    let mut at: usize = 0;
-    while at < cases.len() {
-        let taken = cases::take_case(cases, at);
-        let start = taken.start;
-        let end = taken.end;
-        let body = &cases[start..end];
-        call_guest(guest, page, taken.kind, body);
-        interface = answer_host(interface, page, taken.kind, body);
-        at = end;
+    for case in (Cases { rest: cases }) {
+        answer_guest(guest, page, case.kind, case.body);
+        answer_host(interface, page, case.kind, case.body);
     }
-    interface
 }
 
-fn call_guest(guest: &mut Guest, page: &mut [u8], kind: u8, body: &[u8])
+// The guest's part in a case.
+fn answer_guest(guest: &mut Guest, page: &mut [u8], kind: u8, body: &[u8])
     requires { GoodGuest (guest_of guest.old) × (length page.old ≡ 4160) }
     ensures { GoodGuest (guest_of guest.new) }
 {
@@ -66,9 +60,9 @@ fn call_guest(guest: &mut Guest, page: &mut [u8], kind: u8, body: &[u8])
             case_tools::print_word(b"guest set up\n");
             *guest = new_guest();
         }
-        guest_cases::START_GET_FLAGS..=guest_cases::EVENT => {
-            guest_cases::call(guest, page, kind, body);
-        }
+        guest_cases::START_GET_FLAGS..=guest_cases::EVENT => guest_cases::call(
+            guest, page, kind, body,
+        ),
         COUNTS => {
             patch(page, body);
             guest_cases::recount(guest, &page[..]);
@@ -80,14 +74,14 @@ fn call_guest(guest: &mut Guest, page: &mut [u8], kind: u8, body: &[u8])
 }
 
 // The host's part in a case, which comes after the guest's.
-fn answer_host(i: Interface, page: &mut [u8], kind: u8, body: &[u8]) -> Interface
-    requires { Good (state_of i) × (length page.old ≡ 4160) }
-    ensures { Good (state_of result) }
+fn answer_host(interface: &mut Interface, page: &mut [u8], kind: u8, body: &[u8])
+    requires { Good (state_of interface.old) × (length page.old ≡ 4160) }
+    ensures { Good (state_of interface.new) }
 {
     match kind {
-        HOST_SET_UP => host_cases::set_up(i, body),
-        HOST_EVENT => host_cases::event(i, page, body),
-        COUNTS => host_cases::recount(i, &page[..]),
-        _ => i,
+        HOST_SET_UP => host_cases::set_up(interface, body),
+        HOST_EVENT => host_cases::event(interface, page, body),
+        COUNTS => host_cases::recount(interface, &page[..]),
+        _ => {}
     }
 }

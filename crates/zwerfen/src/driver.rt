@@ -12,7 +12,7 @@ use guest_steps::{Ask, Guest};
 pub extern "C" fn zwerfen_guest_set_up(guest: &mut Guest)
     ensures { state_of guest.new ≡ guest_at_setup }
 {
-    return frontend::set_up(guest);
+    frontend::set_up(guest);
 }
 
 // Starts to ask which flags the host supports.

@@ -1,8 +1,8 @@
 -- `frontend::starting::start` meets its contract: a start is stopped, its request is refused, or it begins.
-use Rattle.octets.specs.Prelude.{refl, ◌∙◌}
+use Rattle.octets.specs.Prelude.{refl, ◌∙◌, arith}
 use Rattle.std.proofs.Common.{Ok, Result}
 use Rattle.std.proofs.lemmas.Result.{err_from_is_err_and}
-use Rattle.guest_steps.specs.Guest.{GuestState, state_of}
+use Rattle.guest_steps.specs.Guest.{state_of}
 use Rattle.guest_steps.specs.Calls.{message_of, refused_with}
 use Rattle.guest_steps.specs.declared.Progress.{Progress}
 use Rattle.frontend.specs.Starts.{started}
@@ -23,7 +23,7 @@ returns-in_err-length c =
 pub begin-requires-clause-page_len : goal.begin-requires-clause-page_len
 begin-requires-clause-page_len c =
     let within = c.in_ok-room.ensures.within in
-    (within.0, within.1, written-fits c.args.ask _ _ _ c.in_ok-length.ensures)
+    (within.0, within.1, omega (arith, written-fits c.args.ask _ _ _ c.in_ok-length.ensures))
 
 pub returns : goal.returns
 returns c =
