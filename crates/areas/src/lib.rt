@@ -1,4 +1,5 @@
 // Octets of an area of the page by their counts. They may fall into two parts: up to the area's end, and on from its start.
+// Reading and writing lend the page in two ways, `&` and `&mut`, so each has its own function for the parts and for a run.
 #![tactic(auto)]
 
 ghost use Rattle.std.specs.Prelude.{◌≡◌, ◌+◌, ◌≤◌};

@@ -1,4 +1,6 @@
-// What the lines of the test programs are made of.
+// What the lines of the test programs are made of. They are put together here and not by `println!`, which would hand the runtime
+// and an error that no one heeds through every function of the test programs.
+
 // Where printed text goes.
 const STDOUT: i32 = 1;
 

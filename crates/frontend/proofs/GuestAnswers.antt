@@ -21,16 +21,17 @@ use Rattle.guest_messages.specs.declared.AckRead.TheVariants.{Status, Flags}
 use Rattle.guest_steps.specs.declared.Progress.{Progress}
 use Rattle.guest_steps.specs.declared.Progress.TheVariants.{Pending, RequestOwed, Acked}
 use Rattle.guest_steps.specs.declared.Refusal.{Refusal}
-use Rattle.guest_steps.specs.declared.Refusal.TheVariants.{PageLength, RequestCount, ResponseCount, AckRefused, Outstanding}
+use Rattle.guest_steps.specs.declared.Refusal.TheVariants.{Page, AckRefused, Outstanding}
+use Rattle.page.specs.declared.PageRefusal.TheVariants.{PageLength, RequestCount, ResponseCount}
 use Rattle.frontend.proofs.Goodness.{WriterRefuses, asked-refused}
 use Rattle.frontend.proofs.Ways.{Stopped, seen-ways, event-ways, read-ways, start-ways}
 
 -- the numbers and values keep the answers apart, so the contracts leave no choice
 unfoldable refusal : ℕ → Refusal
 refusal k =
-    cond (eqb k page_wrong) PageLength
-    (cond (eqb k requests_wrong) RequestCount
-    (cond (eqb k responses_wrong) ResponseCount
+    cond (eqb k page_wrong) (Page PageLength)
+    (cond (eqb k requests_wrong) (Page RequestCount)
+    (cond (eqb k responses_wrong) (Page ResponseCount)
     (cond (eqb k not_an_ack) AckRefused Outstanding)))
 
 unfoldable guest-answer : Told → Result Progress Refusal
@@ -44,9 +45,9 @@ guest-answer-back (Ok Pending) = refl
 guest-answer-back (Ok RequestOwed) = refl
 guest-answer-back (Ok (Acked (Status st))) = refl
 guest-answer-back (Ok (Acked (Flags flags))) = refl
-guest-answer-back (Err PageLength) = refl
-guest-answer-back (Err RequestCount) = refl
-guest-answer-back (Err ResponseCount) = refl
+guest-answer-back (Err (Page PageLength)) = refl
+guest-answer-back (Err (Page RequestCount)) = refl
+guest-answer-back (Err (Page ResponseCount)) = refl
 guest-answer-back (Err AckRefused) = refl
 guest-answer-back (Err Outstanding) = refl
 

@@ -2,7 +2,7 @@
 use Rattle.std.specs.Prelude.{◌≡◌, ◌≤◌, ◌<◌, Result, Ok, Err}
 use Rattle.octets.specs.Prelude.{List, Bool, ℕ, replicate, ltb}
 use Rattle.messages.specs.Wire.{header_size}
-use Rattle.page.specs.Refusals.{page_wrong, requests_wrong, responses_wrong}
+use Rattle.page.specs.Refusals.{page_refusal_number}
 use Rattle.ring.specs.Reading.{incoming_of, GoodIncoming, Incoming}
 use Rattle.ring.specs.Writing.{outgoing_of, owed, GoodOutgoing, Outgoing}
 use Rattle.guest_messages.specs.Refusals.{not_an_ack}
@@ -10,7 +10,7 @@ use Rattle.guest_steps.specs.Refusals.{request_outstanding}
 use Rattle.guest_messages.specs.Reader.{Reading, reading_in}
 use Rattle.guest_steps.specs.declared.Guest.{Guest}
 use Rattle.guest_steps.specs.declared.Refusal.{Refusal}
-use Rattle.guest_steps.specs.declared.Refusal.TheVariants.{PageLength, RequestCount, ResponseCount, AckRefused, Outstanding}
+use Rattle.guest_steps.specs.declared.Refusal.TheVariants.{Page, AckRefused, Outstanding}
 use Rattle.guest_steps.specs.declared.Progress.{Progress}
 use Rattle.guest_steps.specs.declared.Progress.TheVariants.{Pending, RequestOwed, Acked}
 
@@ -119,9 +119,7 @@ told_number (acked r) = ack_read
 
 -- the number that each refusal stands for, and the number and values of each answer
 abbrev pub refusal_number : Refusal → ℕ
-refusal_number PageLength = page_wrong
-refusal_number RequestCount = requests_wrong
-refusal_number ResponseCount = responses_wrong
+refusal_number (Page e) = page_refusal_number e
 refusal_number AckRefused = not_an_ack
 refusal_number Outstanding = request_outstanding
 

@@ -7,7 +7,7 @@ ghost use Rattle.guest_steps.specs.Calls.{found};
 ghost use Rattle.guest_steps.specs.Inner.{CountsFit, finding_of};
 
 use crate::{Counts, FAILED, Guest, Refusal};
-use page::{AREA, REQ_CONS, RSP_PROD};
+use page::{AREA, PageRefusal, REQ_CONS, RSP_PROD};
 
 impl Guest {
     // Looks at the page's length, at both counts of the host, and at whether an ack was refused, in this order. The own req_prod
@@ -19,15 +19,15 @@ impl Guest {
         ensures within { IfOk result (λ counts. (length page.now ≡ page_size) × (counts.room ≤ area_size) × (counts.unread ≤ area_size)) }
     {
         if page.len() != page::PAGE {
-            return Err(Refusal::PageLength);
+            return Err(Refusal::Page(PageRefusal::PageLength));
         }
         let unread_requests = page::unread_by_other(page, REQ_CONS, self.outgoing.prod as u32);
         if unread_requests > AREA {
-            return Err(Refusal::RequestCount);
+            return Err(Refusal::Page(PageRefusal::RequestCount));
         }
         let unread = page::unread_here(page, RSP_PROD, self.incoming.cons as u32);
         if unread > AREA {
-            return Err(Refusal::ResponseCount);
+            return Err(Refusal::Page(PageRefusal::ResponseCount));
         }
         if self.phase == FAILED {
             return Err(Refusal::AckRefused);

@@ -8,7 +8,7 @@ mod calls;
 
 use guest_messages::{AckRead, NOT_AN_ACK};
 use messages::HEADER;
-use page::{PAGE_WRONG, REQUESTS_WRONG, RESPONSES_WRONG};
+use page::PageRefusal;
 use ring::{Receiving, Sending};
 
 // The refusal of a request begun while one is outstanding.
@@ -52,12 +52,8 @@ pub enum Ask<'a> {
 // Why a call of the guest's end is refused.
 #[derive(Clone, Copy, Debug, PartialEq, Eq)]
 pub enum Refusal {
-    // The page is not 4,096 octets.
-    PageLength,
-    // The own req_prod is more than 1,024 ahead of req_cons.
-    RequestCount,
-    // rsp_prod is more than 1,024 ahead of the own rsp_cons.
-    ResponseCount,
+    // The page is refused, as it would be at the host's end.
+    Page(PageRefusal),
     // An ack, now or at an earlier call, is not one to the request.
     AckRefused,
     // A request is begun while one is outstanding.
@@ -69,9 +65,7 @@ impl From<Refusal> for u32 {
 
     fn from(refusal: Refusal) -> u32 {
         match refusal {
-            Refusal::PageLength => PAGE_WRONG,
-            Refusal::RequestCount => REQUESTS_WRONG,
-            Refusal::ResponseCount => RESPONSES_WRONG,
+            Refusal::Page(refusal) => refusal.into(),
             Refusal::AckRefused => NOT_AN_ACK,
             Refusal::Outstanding => REQUEST_OUTSTANDING,
         }

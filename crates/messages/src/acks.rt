@@ -1,4 +1,5 @@
-// The two kinds of ack. Each number in one fits its lowest octet, so only that one is stored.
+// The two kinds of ack. Each number in one fits its lowest octet, so only that one is stored. They share but four lines, and a
+// function over any number of fields would be a loop with an invariant for these two.
 ghost use Rattle.std.specs.Prelude.{◌≡◌};
 ghost use Rattle.messages.specs.Requests.{ack_stored, status_payload, flags_payload};
 

@@ -13,7 +13,8 @@ pub use acks::{with_flags, with_status};
 pub use power::is_power_of_two;
 pub use table::{all_below, build_table};
 
-// Message types: of the host's answer, and of the guest's requests.
+// Message types: of the host's answer, and of the guest's requests. They are numbers here, since any number can stand in a header;
+// `RequestType` is what is made of one.
 pub const ACK_TYPE: u32 = 1;
 
 pub const GET_FLAGS: u32 = 2;
@@ -51,7 +52,8 @@ pub const MAX_PAYLOAD: usize = 1024;
 
 pub const MAX_ACK: usize = 24;
 
-// A mapping table: the queue of each entry. Octets of the array behind the table are 0.
+// A mapping table: the queue of each entry. Octets of the array behind the table are 0. There is no heap, and C has array and
+// count side by side, so they are so here and in an ack.
 #[derive(Drop)]
 pub struct Mapping {
     pub entries: [u8; MAX_ENTRIES],

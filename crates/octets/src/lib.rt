@@ -1,7 +1,7 @@
 // Octets in slices: a copy, and little-endian numbers at a place. What more than one crate needs, and no more.
 #![tactic(auto)]
 
-ghost use Rattle.std.specs.Prelude.{◌≡◌, ◌+◌, ◌*◌, ◌≤◌, ◌++◌};
+ghost use Rattle.std.specs.Prelude.{◌≡◌, ◌+◌, ◌≤◌, ◌++◌};
 ghost use Rattle.octets.specs.Prelude.{length, take, drop, sets};
 ghost use Rattle.octets.specs.Numbers.{number_at, octets_of};
 
@@ -41,19 +41,13 @@ fn copy_rest(dst: &mut [u8], src: &[u8], from: usize)
     }
 }
 
-// The number in the four octets from `at` on.
+// The number in the four octets from `at` on. Four octets and eight have two functions, as they have in the library: one over
+// both would be a trait with these same two bodies.
 pub fn read_u32(octets: &[u8], at: usize) -> u32
     requires { at + 4 ≤ length octets.now }
     ensures { result ≡ number_at 4 octets.now at }
 {
     u32::from_le_bytes([octets[at], octets[at + 1], octets[at + 2], octets[at + 3]])
-}
-
-// The number with these octets, the lowest first.
-pub fn joined(a: u8, b: u8, c: u8, d: u8) -> u32
-    ensures { result ≡ a + 256 * b + 65536 * c + 16777216 * d }
-{
-    u32::from_le_bytes([a, b, c, d])
 }
 
 // The number in the eight octets from `at` on.

@@ -1,5 +1,5 @@
 // The counts of a page. Each end keeps its own two and reads the other end's two from the page; all run over from
-// 4,294,967,295 to 0.
+// 4,294,967,295 to 0. The two differences stand in two functions: which count is the own one says which is taken from which.
 ghost use Rattle.std.specs.Prelude.{◌≡◌, ◌+◌, ◌≤◌};
 ghost use Rattle.octets.specs.Prelude.{length};
 ghost use Rattle.page.specs.Page.{count_in, less, with_count};

@@ -10,13 +10,14 @@ mod counts;
 pub use counts::{unread_by_other, unread_here, write_counts};
 
 // The numbers of the refusals of a page.
-pub const PAGE_WRONG: u32 = 3;
+const PAGE_WRONG: u32 = 3;
 
-pub const REQUESTS_WRONG: u32 = 4;
+const REQUESTS_WRONG: u32 = 4;
 
-pub const RESPONSES_WRONG: u32 = 5;
+const RESPONSES_WRONG: u32 = 5;
 
-// Octets of the page, and of each area.
+// Octets of the page, and of each area. A page is a slice, and its length stands in the clauses: a slice turned into an array by
+// `try_from` was tried, and what is then written to the array is not known of the slice.
 pub const PAGE: usize = 4096;
 
 pub const AREA: u32 = 1024;

@@ -1,5 +1,5 @@
-// The questions by number: the hash, the two-way question, and the packet question of an interface. Values go to places that are
-// lent for them, which a refusal leaves as they were.
+// The questions by number, as C asks them: the hash, the two-way question, and the packet question of an interface. Values go to
+// places that are lent for them, which a refusal leaves as they were.
 #![tactic(auto)]
 
 ghost use Rattle.std.specs.Prelude.{◌≡◌};

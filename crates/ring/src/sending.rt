@@ -5,7 +5,8 @@ ghost use Rattle.page.specs.Page.{area_size, put};
 ghost use Rattle.ring.specs.Writing.{sent, sent_octets, fitting, outgoing_in};
 
 // How many octets the message has and how many of them are written, and the own count of octets written, which is a 32-bit
-// count as on the page. C reads the fields, so they are its numbers; the octets stand elsewhere in its struct.
+// count as on the page. C reads the fields, so they are its numbers; the octets stand elsewhere in its struct. What holds of them is
+// asked in clauses and is no invariant of the type, since C lends a setup a struct with any numbers in it.
 #[repr(C)]
 #[derive(Clone, Copy)]
 pub struct Sending {
