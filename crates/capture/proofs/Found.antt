@@ -1,6 +1,6 @@
 -- What the step at a place of a capture says of the records from there on.
-use Rattle.octets.specs.Prelude.{◌≡◌, refl, ap, ◌∙◌, List, [], true, false, ℕ, ◌+◌, ◌-◌, ◌≤◌, arith, length}
-use Rattle.octets.specs.Prelude.{take, drop, length-drop, drop_of_length-le, drop-drop, eqb, eqb-true}
+use Rattle.octets.specs.Prelude.{◌≡◌, refl, ap, ◌∙◌, List, [], true, false, ℕ, ◌+◌, ◌-◌, ◌≤◌, ◌<◌, arith, length}
+use Rattle.octets.specs.Prelude.{take, drop, length-drop, drop_of_length-le, drop-drop, eqb, eqb-true, eqb-false}
 use Rattle.octets.specs.Outcome.{Outcome, value, refused}
 use Rattle.octets.proofs.Truth.{by-test}
 use Rattle.octets.proofs.Outcomes.{value-not-refused}
@@ -67,3 +67,10 @@ module _ (xs : List ℕ) (at : ℕ) where
       step-ways (λ (x : Outcome Next). x ≡ refused k → all_of (fall_of o (drop at xs)) ≡ refused record_wrong)
       (λ _ z. absurd (value-not-refused no_more k z)) (λ _ z. absurd (value-not-refused _ k z))
       (λ t u z. ap all_of (fall-none o (drop at xs) u) ∙ rw t refl)
+
+  -- a wrong record stands where octets are left
+  pub found-some : (n : ℕ) → step_at xs at ≡ refused n → at < length xs
+  found-some k =
+      step-ways (λ (x : Outcome Next). x ≡ refused k → at < length xs) (λ _ z. absurd (value-not-refused no_more k z))
+      (λ _ z. absurd (value-not-refused _ k z))
+      (λ t u z. omega (arith, length-drop at xs, eqb-false (length (drop at xs)) 0 t))

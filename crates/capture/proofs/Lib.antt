@@ -7,4 +7,6 @@ pub mod Found
 pub mod Frames
 pub mod Theorems
 pub mod Exactly
+pub mod Joined
+pub mod Progress
 pub mod Readers

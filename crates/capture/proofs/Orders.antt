@@ -1,31 +1,13 @@
 -- Laws of numbers in either order of octets.
 use Rattle.octets.specs.Prelude.{◌≡◌, refl, ap₂, List, ◌++◌, ℕ, zero, suc, ◌+◌, ◌*◌, ◌^◌, ◌≤◌, ◌<◌, add-zero, add_assoc, arith}
 use Rattle.octets.specs.Prelude.{length, get_or, take, drop, List·get_d-append, get_or-take, get_or-drop}
-use Rattle.octets.specs.Numbers.{number_at}
 use Rattle.octets.proofs.Numbers.{number_same}
 use Rattle.capture.specs.Header.{big_endian_at, number_in}
 use Rattle.capture.specs.declared.Order.{Order}
 use Rattle.capture.specs.declared.Order.TheVariants.{LowFirst, HighFirst}
 
--- two and four octets by themselves, as `joined` takes them
-pub low-two : (xs : List ℕ) (i : ℕ) → get_or xs i 0 + 256 * get_or xs (i + 1) 0 + 65536 * 0 + 16777216 * 0 ≡ number_at 2 xs i
-unfolding number_at
-low-two xs i = omega arith
-
-pub high-two : (xs : List ℕ) (i : ℕ) → get_or xs (i + 1) 0 + 256 * get_or xs i 0 + 65536 * 0 + 16777216 * 0 ≡ big_endian_at 2 xs i
-unfolding big_endian_at
-high-two xs i = omega arith
-
-pub high-four : (xs : List ℕ) (i : ℕ)
-    → get_or xs (i + 3) 0 + 256 * get_or xs (i + 2) 0 + 65536 * get_or xs (i + 1) 0 + 16777216 * get_or xs i 0 ≡ big_endian_at 4 xs i
-unfolding big_endian_at
-high-four xs i =
-    let two : i + 1 + 1 ≡ i + 2 = omega arith in
-    let three : i + 2 + 1 ≡ i + 3 = omega arith in
-    rw (two, three) (omega arith)
-
 -- two lists with equal octets at two places have equal numbers there
-big-same : (n : ℕ) (xs ys : List ℕ) (i j : ℕ) → ((k : ℕ) → k < n → get_or xs (i + k) 0 ≡ get_or ys (j + k) 0)
+pub big-same : (n : ℕ) (xs ys : List ℕ) (i j : ℕ) → ((k : ℕ) → k < n → get_or xs (i + k) 0 ≡ get_or ys (j + k) 0)
     → big_endian_at n xs i ≡ big_endian_at n ys j
 unfolding big_endian_at
 big-same zero xs ys i j h = refl

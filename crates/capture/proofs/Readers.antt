@@ -1,6 +1,7 @@
 -- What proofs by hand of the functions over a `Reader` share, which the check finds itself now. The code of each does what a course says
 -- (`Forward.antt` of the crate `lending`).
 --     D, L, B          the struct's type at a signature's one lifetime: as declared, its laws, and as a row
+--     Step             what a reader gives at a place, as a row
 --     a-reader         how a `Reader` is spelled
 --     reader-typed, step_typed     the machine value of a `Reader`, whatever name the lifetime has, and of a `Step` has its type
 --     number           what a `usize` owns is a fact alone, so it is had for nothing
@@ -17,16 +18,21 @@ use Rattle.lending.proofs.Walks.{◌≡◌, Model, Running, Fn, Closed, tables, 
 use Rattle.lending.proofs.Walks.{Are, Ises, on_entry, entered, cited, fst∗, Routine}
 use prog.Routine.{Env}
 use denote.Struct.Laws as LL
-use denote.Enum.Laws as EL
 use Rattle.lending.proofs.Spelt.{Spelt, Spelts, told}
 use Rattle.lending.proofs.Forward.{Course, asks, Follows, Does}
 use Rattle.lending.proofs.Exports.{followed}
 use Rattle.capture.specs.declared.reader.Reader.{Reader}
-use Rattle.capture.specs.declared.Step.{Step}
 use Rattle.capture.specs.contracts.reader.Reader as T
-use Rattle.capture.specs.contracts.Step as S
+use Rattle.capture.specs.contracts.Record as S
+use Rattle.capture.specs.contracts.RecordWrong as W
+use Rattle.std.specs.contracts.option.Option.{the_row as OptionOf}
+use Rattle.std.specs.contracts.result.Result.{the_row as ResultOf}
+use Rattle.std.proofs.option.Option.TheLaws.{the_row_laws as option_laws}
+use Rattle.std.proofs.result.Result.TheLaws.{the_row_laws as result_laws}
+use denote.Param.{layout}
 use Rattle.capture.proofs.reader.Reader.TheLaws as T'
-use Rattle.capture.proofs.Step.TheLaws as S'
+use Rattle.capture.proofs.Record.TheLaws as S'
+use Rattle.capture.proofs.RecordWrong.TheLaws as W'
 use types.Logic.{Logic, sem}
 
 abbrev pub D : Lfts 1 → Declared
@@ -38,6 +44,13 @@ L κs = T'.the_laws (named_lft 1 0 tt κs)
 abbrev pub B : Lfts 1 → RattleType
 B κs = T.the_row (named_lft 1 0 tt κs)
 
+-- a record or that it is wrong, and what a reader gives at a place: one of these, or nothing
+abbrev pub Tried : RattleType
+Tried = ResultOf S.the_row W.the_row
+
+abbrev pub Step : RattleType
+Step = OptionOf Tried
+
 -- what is said of n parameters at exit of which nothing is said
 abbrev trues : ℕ → Fml
 trues zero = ftrue
@@ -47,8 +60,9 @@ module _ {M : Type 1} {𝓤 : Ura M} (𝓛 : Logic 𝓤) where
   pub reader-typed : (α : NamedLft) (d : Reader) (u : Val) → Is (T.the_row α) d (u ∷ []) → Holds (has_ty (T'.mir α.mir) u) × WT u
   reader-typed α d u is = ((LL.lawful (T.the_type α) (T'.the_laws α) 𝓛).typed d (u ∷ []) is).0
 
-  pub step_typed : (r : Step) (u : Val) → Is S.the_row r (u ∷ []) → Holds (has_ty S'.mir u) × WT u
-  step_typed r u is = ((EL.lawful S.the_type S'.the_laws 𝓛 tt).typed r (u ∷ []) is).0
+  pub step_typed : (r : Step.Denot) (u : Val) → Is Step r (u ∷ []) → Holds (has_ty (layout Step) u) × WT u
+  step_typed r u is =
+      (((option_laws Tried (result_laws S.the_row W.the_row S'.the_row_laws W'.the_row_laws)).lawful 𝓛).typed r (u ∷ []) is).0
 
   abbrev pub a-reader : (κs : Lfts 1) → Spelt (B κs)
   a-reader κs = record { vals = LL.vals (D κs) (L κs); tells = LL.tells (D κs) (L κs); typed = (LL.lawful (D κs) (L κs) 𝓛).typed }

@@ -2,7 +2,7 @@
 --   0 magic number (4)   4 major version (2)   6 minor version (2)   8 time zone (4)   12 accuracy (4)
 --   16 snapshot length (4)   20 link type (4)
 -- Its numbers, and those of every record's header, are in the order in which the magic number was written.
-use Rattle.std.specs.Prelude.{◌&&◌, ◌+◌, ◌*◌, ◌^◌}
+use Rattle.std.specs.Prelude.{◌&&◌, ◌+◌, ◌*◌, ◌^◌, Result, Ok, Err}
 use Rattle.octets.specs.Prelude.{List, Bool, cond, ℕ, zero, suc, length, get_or, eqb, leb}
 use Rattle.octets.specs.Outcome.{Outcome, value, refused}
 use Rattle.octets.specs.Numbers.{number_at}
@@ -10,8 +10,7 @@ use Rattle.capture.specs.declared.Order.{Order}
 use Rattle.capture.specs.declared.Order.TheVariants.{LowFirst, HighFirst}
 use Rattle.capture.specs.declared.Link.{Link}
 use Rattle.capture.specs.declared.Link.TheVariants.{Ethernet, Raw}
-use Rattle.capture.specs.declared.HeaderAnswer.{HeaderAnswer}
-use Rattle.capture.specs.declared.HeaderAnswer.TheVariants.{Good, Bad}
+use Rattle.capture.specs.declared.HeaderWrong.{HeaderWrong}
 
 -- refusal 14: bad capture header
 abbrev pub header_wrong : ℕ
@@ -52,7 +51,7 @@ header_outcome xs =
     let o = order_of xs in
     cond (leb capture_header (length xs) && is_classic o xs) (link_outcome (number_in o 4 xs 20)) (refused header_wrong)
 
--- the number and value that each case of the answer stands for
-abbrev pub header_outcome_of : HeaderAnswer → Outcome Link
-header_outcome_of (Good link) = value link
-header_outcome_of Bad = refused header_wrong
+-- the value, or the number of the refusal
+abbrev pub header_outcome_of : Result Link HeaderWrong → Outcome Link
+header_outcome_of (Ok link) = value link
+header_outcome_of (Err e) = refused header_wrong

@@ -2,3 +2,4 @@
 pub mod Header
 pub mod Records
 pub mod Packets
+pub mod Reading

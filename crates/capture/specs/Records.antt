@@ -1,13 +1,13 @@
 -- The records of a capture, one after the other behind its header. A record is a header of 16 octets and then the
 -- captured octets:
 --   0 seconds (4)   4 microseconds (4)   8 captured length (4)   12 original length (4)   16 captured octets
-use Rattle.std.specs.Prelude.{◌≡◌, ◌∷◌, ◌++◌, ◌&&◌, ◌+◌, ◌≤◌}
+use Rattle.std.specs.Prelude.{◌≡◌, ◌∷◌, ◌++◌, ◌&&◌, ◌+◌, ◌≤◌, Option, None, Some, Result, Ok, Err}
 use Rattle.octets.specs.Prelude.{List, [], Bool, cond, ℕ, zero, suc, length, take, drop, eqb, leb}
 use Rattle.octets.specs.Outcome.{Outcome, value, refused}
 use Rattle.capture.specs.Header.{capture_header, number_in, order_of}
 use Rattle.capture.specs.declared.Order.{Order}
-use Rattle.capture.specs.declared.Step.{Step}
-use Rattle.capture.specs.declared.Step.TheVariants.{Record, End, Bad}
+use Rattle.capture.specs.declared.Record.{Record}
+use Rattle.capture.specs.declared.RecordWrong.{RecordWrong}
 
 -- refusal 15: a record cut short or above 2,048 octets
 abbrev pub record_wrong : ℕ
@@ -47,11 +47,11 @@ step_in o xs at =
 abbrev pub step_at : List ℕ → ℕ → Outcome Next
 step_at capture at = step_in (order_of capture) (drop at capture) at
 
--- the number and values that each case of the answer stands for
-abbrev pub step_outcome_of : Step → Outcome Next
-step_outcome_of (Record start end) = value (between start end)
-step_outcome_of End = value no_more
-step_outcome_of Bad = refused record_wrong
+-- the values, or the number of the refusal
+abbrev pub step_outcome_of : Option (Result Record RecordWrong) → Outcome Next
+step_outcome_of None = value no_more
+step_outcome_of (Some (Ok r)) = value (between r.start r.end)
+step_outcome_of (Some (Err e)) = refused record_wrong
 
 -- octets as the good records that they begin with, and what is left behind those
 pub record Fall : Type 0 where

@@ -2,17 +2,20 @@
 // its length covers is looked at, and every length in it is checked before it is used.
 #![tactic(auto)]
 
+ghost use Rattle.std.specs.Prelude.{◌≡◌};
+ghost use Rattle.capture.specs.Header.{header_wrong};
+ghost use Rattle.capture.specs.Records.{record_wrong};
+
 mod numbers;
 mod reader;
 mod records;
 
-pub use numbers::{order_of, u16_at, u32_at};
-pub use reader::{Reader, moved, next, open, record_at};
+pub use reader::{Reader, record_at};
 
-// The refusals: a bad header, and a record that is cut short or too long.
-pub const HEADER_WRONG: u8 = 14;
+// The numbers of the refusals.
+const HEADER_WRONG: u32 = 14;
 
-pub const RECORD_WRONG: u8 = 15;
+const RECORD_WRONG: u32 = 15;
 
 // The magic number of a capture whose times are in microseconds, and where it stands.
 pub const MAGIC: u32 = 0xA1B2C3D4;
@@ -28,32 +31,47 @@ pub const RECORD_HEADER: usize = 16;
 pub const MAX_RECORD: u32 = 2048;
 
 // The order of the octets of every number in a capture.
-#[derive(Clone, Copy)]
+#[derive(Clone, Copy, Debug, PartialEq, Eq)]
 pub enum Order {
     LowFirst,
     HighFirst,
 }
 
 // What a record holds: an Ethernet frame, or an IP packet at its start.
-#[derive(Clone, Copy)]
+#[derive(Clone, Copy, Debug, PartialEq, Eq)]
 pub enum Link {
     Ethernet,
     Raw,
 }
 
-#[derive(Drop)]
-pub enum HeaderAnswer {
-    Good(Link),
-    // No header of a capture that is read here.
-    Bad,
+// No header of a capture that is read here.
+#[derive(Clone, Copy, Debug, PartialEq, Eq)]
+pub struct HeaderWrong;
+
+// The captured octets of a record stand from `start` to `end`, where the next record begins.
+#[derive(Clone, Copy, Debug, PartialEq, Eq)]
+pub struct Record {
+    pub start: usize,
+    pub end: usize,
 }
 
-#[derive(Drop)]
-pub enum Step {
-    // The captured octets of a record stand from `start` to `end`, where the next record begins.
-    Record { start: usize, end: usize },
-    // No octet is left.
-    End,
-    // A record that is cut short, or has more than 2,048 captured octets.
-    Bad,
+// A record that is cut short, or has more than 2,048 captured octets.
+#[derive(Clone, Copy, Debug, PartialEq, Eq)]
+pub struct RecordWrong;
+
+// The number of each refusal.
+impl From<HeaderWrong> for u32 {
+    ghost from_gives = { λ _ n. n ≡ header_wrong };
+
+    fn from(_refusal: HeaderWrong) -> u32 {
+        HEADER_WRONG
+    }
+}
+
+impl From<RecordWrong> for u32 {
+    ghost from_gives = { λ _ n. n ≡ record_wrong };
+
+    fn from(_refusal: RecordWrong) -> u32 {
+        RECORD_WRONG
+    }
 }

@@ -5,41 +5,31 @@ ghost use Rattle.capture.specs.Header.{number_in, order_of};
 
 use crate::{MAGIC, MAGIC_AT, Order};
 
-// The order in which the magic number was written.
-pub fn order_of(capture: &[u8]) -> Order
-    requires { 4 ≤ length capture.now }
-    ensures { result ≡ order_of capture.now }
-{
-    if u32_at(capture, Order::HighFirst, MAGIC_AT) == MAGIC {
-        Order::HighFirst
-    } else {
-        Order::LowFirst
+impl Order {
+    // The order in which the capture's magic number was written.
+    #[tactic(auto, unfolding(crate::specs::Header::order_of))]
+    pub fn of(capture: &[u8]) -> Self
+        requires { 4 ≤ length capture.now }
+        ensures { result ≡ order_of capture.now }
+    {
+        if Order::HighFirst.number_at::<4>(capture, MAGIC_AT) == MAGIC {
+            Order::HighFirst
+        } else {
+            Order::LowFirst
+        }
     }
-}
 
-// The number in the four octets from `at` on.
-pub fn u32_at(capture: &[u8], order: Order, at: usize) -> u32
-    requires { at + 4 ≤ length capture.now }
-    ensures { result ≡ number_in order 4 capture.now at }
-{
-    match order {
-        Order::LowFirst => octets::read_u32(capture, at),
-        Order::HighFirst => octets::joined(
-            capture[at + 3],
-            capture[at + 2],
-            capture[at + 1],
-            capture[at],
-        ),
-    }
-}
-
-// The number in the two octets from `at` on.
-pub fn u16_at(capture: &[u8], order: Order, at: usize) -> u32
-    requires { at + 2 ≤ length capture.now }
-    ensures { result ≡ number_in order 2 capture.now at }
-{
-    match order {
-        Order::LowFirst => octets::joined(capture[at], capture[at + 1], 0, 0),
-        Order::HighFirst => octets::joined(capture[at + 1], capture[at], 0, 0),
+    // The number in the N octets from `at` on.
+    pub fn number_at<const N: usize>(self, octets: &[u8], at: usize) -> u32
+        requires size { N ≤ 4 }
+        requires inside { at + N ≤ length octets.now }
+        ensures { result ≡ number_in self N octets.now at }
+    {
+        let number = octets[at..at + N].iter();
+        let join = |high: u32, octet: &u8| high << 8 | u32::from(*octet);
+        match self {
+            Order::LowFirst => number.rev().fold(0, join),
+            Order::HighFirst => number.fold(0, join),
+        }
     }
 }

@@ -10,5 +10,5 @@ fn main(rt: HostRuntime) {
     let mut captured = [0u8; ROOM];
     let n = files::read(&rt, b"settings", &mut settings);
     let k = files::read(&rt, b"capture", &mut captured);
-    text::print(report_text::report_text(&settings[..n], &captured[..k]));
+    report_text::report_text(&settings[..n], &captured[..k]).print();
 }

@@ -5,10 +5,10 @@
 ghost use Rattle.std.specs.Prelude.{◌≡◌, ◌+◌, ◌*◌, ◌≤◌};
 ghost use Rattle.octets.specs.Prelude.{length};
 ghost use Rattle.toeplitz.specs.Hash.{key_length, max_input};
-ghost use Rattle.toeplitz.specs.TwoWay.{last_type, address_size, port_size, two_way_outcome, two_way_outcome_of};
+ghost use Rattle.toeplitz.specs.TwoWay.{type_number, address_size, port_size, two_way_outcome, two_way_outcome_of};
 ghost use Rattle.directions.specs.Inner.{FoundIn};
 
-use toeplitz::{KEY_LENGTH, LAST_TYPE, TwoWayRefusal, next_window, octet_window};
+use toeplitz::{HashType, KEY_LENGTH, TwoWayRefusal, next_window, octet_window};
 
 // The lowest bit that, alone set, gives an input with another hash than its reverse; none where the two directions of every
 // conversation have one hash under the key.
@@ -18,11 +18,9 @@ pub fn two_way(key: &[u8], hash_type: u32) -> Result<Option<usize>, TwoWayRefusa
     if key.len() != KEY_LENGTH {
         return Err(TwoWayRefusal::KeyLength);
     }
-    if hash_type > LAST_TYPE {
-        return Err(TwoWayRefusal::HashType);
-    }
-    let address = address_size(hash_type);
-    let port = port_size(hash_type);
+    let known = HashType::try_from(hash_type)?;
+    let address = address_size(known);
+    let port = port_size(known);
     if let Some(bit) = first_difference(key, 0, address) {
         return Ok(Some(bit));
     }
@@ -34,17 +32,22 @@ pub fn two_way(key: &[u8], hash_type: u32) -> Result<Option<usize>, TwoWayRefusa
 }
 
 // Octets of an address, and of a port, in an input of a type.
-fn address_size(hash_type: u32) -> usize
-    ensures { (result ≡ address_size hash_type) × (result ≤ 16) }
+fn address_size(hash_type: HashType) -> usize
+    ensures { (result ≡ address_size (type_number hash_type)) × (result ≤ 16) }
 {
-    if hash_type < 2 { 4 } else { 16 }
+    match hash_type {
+        HashType::Ipv4 | HashType::Ipv4Tcp => 4,
+        HashType::Ipv6 | HashType::Ipv6Tcp => 16,
+    }
 }
 
-fn port_size(hash_type: u32) -> usize
-    requires { hash_type ≤ last_type }
-    ensures { (result ≡ port_size hash_type) × (result ≤ 2) }
+fn port_size(hash_type: HashType) -> usize
+    ensures { (result ≡ port_size (type_number hash_type)) × (result ≤ 2) }
 {
-    if hash_type % 2 == 0 { 0 } else { 2 }
+    match hash_type {
+        HashType::Ipv4 | HashType::Ipv6 => 0,
+        HashType::Ipv4Tcp | HashType::Ipv6Tcp => 2,
+    }
 }
 
 // The first bit of the `size` octets from octet `at` on whose window differs from that at the same bit of the next `size`

@@ -16,8 +16,7 @@ pub fn read<R: Files>(rt: &R, name: &[u8], buffer: &mut [u8]) -> usize
     let Some(mut file) = open(rt, name) else {
         return 0;
     };
-    let n = read_full(&mut file, buffer);
-    n
+    read_full(&mut file, buffer)
 }
 
 // The file with this name, if there is one.
@@ -26,7 +25,8 @@ fn open<R: Files>(rt: &R, name: &[u8]) -> Option<R::File> {
     fs::open(rt, path).ok()
 }
 
-// Reads until the buffer is full, the file ends or a read fails, and answers how many octets it put at the start.
+// Reads until the buffer is full, the file ends or a read fails, and answers how many octets it put at the start, which
+// `read_exact` does not tell where the file ends first.
 fn read_full<F: Read>(file: &mut F, buffer: &mut [u8]) -> usize
     ensures { result ≤ length buffer.new }
 {

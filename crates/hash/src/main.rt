@@ -11,5 +11,5 @@ const ROOM: usize = toeplitz::KEY_LENGTH + toeplitz::MAX_INPUT + 1;
 fn main() {
     let mut buffer = [0u8; ROOM];
     let n = io::read_full(STDIN, &mut buffer);
-    text::print(answer_lines::hash_text(&buffer[..n]));
+    answer_lines::hash_text(&buffer[..n]).print();
 }

@@ -42,14 +42,13 @@ fn split(kind: u8, body: &[u8]) {
 }
 
 fn print_answer(kind: u8, first: &[u8], second: &[u8]) {
-    match kind {
-        HASH => text::print(answer_lines::hash_line(hashing::hash(first, second))),
-        TWO_WAY => {
-            text::print(answer_lines::verdict_line(directions::two_way(first, hash_type(second))))
-        }
-        HASH_PROGRAM => text::print(answer_lines::hash_text(second)),
-        _ => text::print(answer_lines::two_way_text(second)),
+    let text = match kind {
+        HASH => answer_lines::hash_line(hashing::hash(first, second)),
+        TWO_WAY => answer_lines::verdict_line(directions::two_way(first, hash_type(second))),
+        HASH_PROGRAM => answer_lines::hash_text(second),
+        _ => answer_lines::two_way_text(second),
     };
+    text.print();
 }
 
 // A type that is missing counts as 0.

@@ -6,7 +6,7 @@ ghost use Rattle.octets.specs.Prelude.{length};
 ghost use Rattle.capture.specs.Header.{capture_header, is_classic, link_outcome, header_outcome, header_outcome_of};
 ghost use Rattle.capture.specs.Packets.{holds_ip, ip_part};
 
-use capture::{HeaderAnswer, Link, Order, u16_at, u32_at};
+use capture::{CAPTURE_HEADER, HeaderWrong, Link, MAGIC, MAGIC_AT, Order};
 
 // Where the fields of the header that are looked at stand, beside the magic number, and the version.
 const MAJOR_AT: usize = 4;
@@ -35,73 +35,63 @@ const ETHER_IPV4: u32 = 0x0800;
 const ETHER_IPV6: u32 = 0x86DD;
 
 // What the records of the capture hold, or that its header is bad.
-pub fn header(capture: &[u8]) -> HeaderAnswer
+#[tactic(auto, unfolding(capture::specs::Header::header_outcome))]
+pub fn header(capture: &[u8]) -> Result<Link, HeaderWrong>
     ensures { header_outcome_of result ≡ header_outcome capture.now }
 {
-    if capture.len() < capture::CAPTURE_HEADER {
-        return HeaderAnswer::Bad;
+    if capture.len() < CAPTURE_HEADER {
+        return Err(HeaderWrong);
     }
-    let order = capture::order_of(capture);
+    let order = Order::of(capture);
     if !is_classic(capture, order) {
-        return HeaderAnswer::Bad;
+        return Err(HeaderWrong);
     }
-    link(u32_at(capture, order, LINK_AT))
+    link(order.number_at::<4>(capture, LINK_AT))
 }
 
 // Whether magic number and version are those of a classic capture.
+#[tactic(auto, unfolding(capture::specs::Header::is_classic))]
 fn is_classic(capture: &[u8], order: Order) -> bool
     requires { capture_header ≤ length capture.now }
     ensures { result ≡ is_classic order capture.now }
 {
-    if u32_at(capture, order, capture::MAGIC_AT) != capture::MAGIC {
-        return false;
-    }
-    if u16_at(capture, order, MAJOR_AT) != MAJOR {
-        return false;
-    }
-    u16_at(capture, order, MINOR_AT) == MINOR
+    order.number_at::<4>(capture, MAGIC_AT) == MAGIC
+        && order.number_at::<2>(capture, MAJOR_AT) == MAJOR
+        && order.number_at::<2>(capture, MINOR_AT) == MINOR
 }
 
-// The answer for a header with this link type.
-fn link(number: u32) -> HeaderAnswer
+// What the records hold under this link type.
+#[tactic(auto, unfolding(capture::specs::Header::link_outcome))]
+fn link(number: u32) -> Result<Link, HeaderWrong>
     ensures { header_outcome_of result ≡ link_outcome number }
 {
-    if number == ETHERNET {
-        return HeaderAnswer::Good(Link::Ethernet);
+    match number {
+        ETHERNET => Ok(Link::Ethernet),
+        RAW => Ok(Link::Raw),
+        _ => Err(HeaderWrong),
     }
-    if number == RAW {
-        return HeaderAnswer::Good(Link::Raw);
-    }
-    HeaderAnswer::Bad
 }
 
-// The IP packet in the captured octets of a record, handed back as that part of them. Where there is none, the part is
-// empty.
+// The IP packet in the captured octets of a record, handed back as that part of them; no octets where there is none.
+#[tactic(auto, unfolding(capture::specs::Packets::holds_ip, capture::specs::Packets::ip_part))]
 pub fn ip_part<'a>(link: Link, captured: &'a [u8]) -> &'a [u8]
     ensures { result.now ≡ ip_part link captured.now }
 {
     match link {
-        Link::Ethernet => {
-            if holds_ip(captured) {
-                &captured[ETHERNET_HEADER..]
-            } else {
-                &captured[..0]
-            }
-        }
+        Link::Ethernet if holds_ip(captured) => &captured[ETHERNET_HEADER..],
+        Link::Ethernet => &[],
         Link::Raw => captured,
     }
 }
 
 // Whether an Ethernet frame holds an IP packet.
+#[tactic(auto, unfolding(capture::specs::Packets::holds_ip))]
 fn holds_ip(frame: &[u8]) -> bool
     ensures { result ≡ holds_ip frame.now }
 {
-    if frame.len() < ETHERNET_HEADER {
-        return false;
-    }
-    let kind = u16_at(frame, Order::HighFirst, ETHER_TYPE_AT);
-    if kind == ETHER_IPV4 {
-        return true;
-    }
-    kind == ETHER_IPV6
+    frame.len() >= ETHERNET_HEADER
+        && matches!(
+            Order::HighFirst.number_at::<2>(frame, ETHER_TYPE_AT),
+            ETHER_IPV4 | ETHER_IPV6
+        )
 }

@@ -6,8 +6,10 @@ use Rattle.octets.proofs.Truth.{both_true}
 use Rattle.toeplitz.specs.TwoWay.{last_type, input_size}
 use Rattle.packet.specs.Packets.{PacketType, no_type, hash_type, is_ipv4, is_ipv6, is_tcp, is_ipv4_tcp, kind_of, input_start, input_of}
 use Rattle.packet.specs.Packets.{Look, none, typed, look_of}
-use Rattle.packet.specs.declared.Found.{Found}
-use Rattle.packet.specs.declared.Found.TheVariants.{NotIp, Ip}
+use Rattle.packet.specs.declared.IpPacket.{IpPacket}
+use Rattle.toeplitz.specs.declared.HashType.{HashType}
+use Rattle.toeplitz.proofs.Types.{type-named, type-named-back}
+use Rattle.std.specs.Prelude.{Option, None, Some}
 
 module _ (p : List ℕ) where
   pub ipv4-long : is_ipv4 p ≡ true → 20 ≤ length p
@@ -67,14 +69,15 @@ module _ (p : List ℕ) where
   input-length t h = length-take-le (input_size t) (drop (input_start t) p) (rw length-drop (omega arith))
 
 -- the reading of an answer keeps answers apart, so the contract leaves no choice
-found_of : Look → Found
-found_of none = NotIp
-found_of (typed t addresses ports end) = Ip t addresses ports end
+found_of : Look → Option IpPacket
+found_of none = None
+found_of (typed t addresses ports end) = Some (record { hash_type = type-named t; addresses = addresses; ports = ports; end = end })
 
-found_back : (r : Found) → found_of (look_of r) ≡ r
+found_back : (r : Option IpPacket) → found_of (look_of r) ≡ r
 unfolding found_of
-found_back NotIp = refl
-found_back (Ip t addresses ports end) = refl
+found_back None = refl
+found_back (Some p) =
+    ap (λ (t : HashType). Some (record { hash_type = t; addresses = p.addresses; ports = p.ports; end = p.end })) (type-named-back p.hash_type)
 
-pub found-determined : (r s : Found) → look_of r ≡ look_of s → r ≡ s
+pub found-determined : (r s : Option IpPacket) → look_of r ≡ look_of s → r ≡ s
 found-determined r s e = sym (found_back r) ∙ ap found_of e ∙ found_back s

@@ -1,9 +1,8 @@
 -- The kind of a packet, and where its hash input stands.
-use Rattle.std.specs.Prelude.{◌&&◌, ◌||◌, ◌+◌, ◌*◌, ◌/◌, ◌%◌, ◌^◌}
+use Rattle.std.specs.Prelude.{Option, None, Some, ◌&&◌, ◌||◌, ◌+◌, ◌*◌, ◌/◌, ◌%◌, ◌^◌}
 use Rattle.octets.specs.Prelude.{List, Bool, cond, not, ℕ, zero, suc, length, get_or, take, drop, eqb, leb}
-use Rattle.toeplitz.specs.TwoWay.{address_size, input_size}
-use Rattle.packet.specs.declared.Found.{Found}
-use Rattle.packet.specs.declared.Found.TheVariants.{NotIp, Ip}
+use Rattle.toeplitz.specs.TwoWay.{type_number, address_size, input_size}
+use Rattle.packet.specs.declared.IpPacket.{IpPacket}
 
 -- a hash type by its number (0 IPv4, 1 IPv4 TCP, 2 IPv6, 3 IPv6 TCP), or none
 pub data PacketType : Type 0 where
@@ -75,7 +74,7 @@ look_at no_type = none
 look_at (hash_type t) =
     typed t (input_start t) (input_start t + (address_size t + address_size t)) (input_start t + input_size t)
 
--- the number and places that each case of the enum stands for
-abbrev pub look_of : Found → Look
-look_of NotIp = none
-look_of (Ip t addresses ports end) = typed t addresses ports end
+-- what an answer says, by the number of the type
+abbrev pub look_of : Option IpPacket → Look
+look_of None = none
+look_of (Some p) = typed (type_number p.hash_type) p.addresses p.ports p.end

@@ -4,16 +4,10 @@
 
 ghost use Rattle.std.specs.Prelude.{◌≡◌, ◌+◌, ◌*◌, ◌≤◌, ◌<◌};
 ghost use Rattle.octets.specs.Prelude.{length};
-ghost use Rattle.packet.specs.Packets.{is_ipv4, is_ipv6, is_tcp, is_fragment, is_ipv4_tcp, kind_of, look_at, look_of};
+ghost use Rattle.toeplitz.specs.TwoWay.{type_number};
+ghost use Rattle.packet.specs.Packets.{is_ipv4, is_ipv6, is_tcp, is_fragment, is_ipv4_tcp, kind_of, look_at, look_of, typed};
 
-// The hash types by their numbers.
-pub const IPV4: u8 = 0;
-
-pub const IPV4_TCP: u8 = 1;
-
-pub const IPV6: u8 = 2;
-
-pub const IPV6_TCP: u8 = 3;
+use toeplitz::HashType;
 
 // The least octets of a packet of each kind: its header, and for TCP the ports behind it.
 const IPV4_LEAST: usize = 20;
@@ -53,48 +47,45 @@ const IPV6_SOURCE: usize = 8;
 
 const IPV6_PORTS: usize = 40;
 
-#[derive(Drop)]
-pub enum Found {
-    // Neither IPv4 nor IPv6.
-    NotIp,
-    // `hash_type` is the type of the packet's own kind. The addresses stand from `addresses` to `ports`, and the
-    // input of that type from `addresses` to `end`.
-    Ip {
-        hash_type: u8,
-        addresses: usize,
-        ports: usize,
-        end: usize,
-    },
+// What an IP packet is, and where its hash input stands.
+#[derive(Clone, Copy)]
+pub struct IpPacket {
+    // The type of the packet's own kind.
+    pub hash_type: HashType,
+    // The addresses stand from `addresses` to `ports`, and the input of the type from `addresses` to `end`.
+    pub addresses: usize,
+    pub ports: usize,
+    pub end: usize,
 }
 
-// The kind of a packet, and where its hash input stands.
-pub fn look(packet: &[u8]) -> Found
+// The kind of a packet, and where its hash input stands; none where it is neither IPv4 nor IPv6.
+pub fn look(packet: &[u8]) -> Option<IpPacket>
     ensures { look_of result ≡ look_at (kind_of packet.now) }
 {
     if is_ipv4(packet) {
         if is_ipv4_tcp(packet) {
-            return ip(IPV4_TCP, IPV4_SOURCE, IPV4_PORTS, IPV4_TCP_LEAST);
+            return ip(HashType::Ipv4Tcp, IPV4_SOURCE, IPV4_PORTS, IPV4_TCP_LEAST);
         }
-        return ip(IPV4, IPV4_SOURCE, IPV4_PORTS, IPV4_PORTS);
+        return ip(HashType::Ipv4, IPV4_SOURCE, IPV4_PORTS, IPV4_PORTS);
     }
     if is_ipv6(packet) {
         if is_tcp(packet, IPV6_PROTOCOL, IPV6_TCP_LEAST) {
-            return ip(IPV6_TCP, IPV6_SOURCE, IPV6_PORTS, IPV6_TCP_LEAST);
+            return ip(HashType::Ipv6Tcp, IPV6_SOURCE, IPV6_PORTS, IPV6_TCP_LEAST);
         }
-        return ip(IPV6, IPV6_SOURCE, IPV6_PORTS, IPV6_PORTS);
+        return ip(HashType::Ipv6, IPV6_SOURCE, IPV6_PORTS, IPV6_PORTS);
     }
-    Found::NotIp
+    None
 }
 
-fn ip(hash_type: u8, addresses: usize, ports: usize, end: usize) -> Found
-    ensures { result ≡ Found.Ip hash_type addresses ports end }
+fn ip(hash_type: HashType, addresses: usize, ports: usize, end: usize) -> Option<IpPacket>
+    ensures { look_of result ≡ typed (type_number hash_type) addresses ports end }
 {
-    Found::Ip {
+    Some(IpPacket {
         hash_type,
         addresses,
         ports,
         end,
-    }
+    })
 }
 
 fn is_ipv4(packet: &[u8]) -> bool
@@ -130,13 +121,6 @@ fn is_fragment(packet: &[u8]) -> bool
     requires { 8 ≤ length packet.now }
     ensures { result ≡ is_fragment packet.now }
 {
-    let field = joined(packet[FRAGMENT_FIELD], packet[FRAGMENT_FIELD + 1]);
+    let field = u16::from_be_bytes([packet[FRAGMENT_FIELD], packet[FRAGMENT_FIELD + 1]]);
     field & (MORE_FRAGMENTS | FRAGMENT_OFFSET) != 0
-}
-
-// The number with these two octets.
-fn joined(upper: u8, lower: u8) -> u16
-    ensures { result ≡ upper * 256 + lower }
-{
-    upper as u16 * 256 + lower as u16
 }

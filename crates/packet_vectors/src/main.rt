@@ -4,7 +4,8 @@
 
 use case_tools::{print_number, print_word};
 use cases::{Cases, Kept};
-use packet::Found;
+use packet::IpPacket;
+use toeplitz::HashType;
 
 // The kinds: settings for the packets behind them, and a packet.
 const SETTINGS: u8 = 0;
@@ -56,29 +57,24 @@ fn print_answer(settings: &[u8], packet: &[u8]) {
 }
 
 // The kind of a packet, and where its addresses begin, its ports begin and its hash input ends.
-fn print_found(found: Found) {
+fn print_found(found: Option<IpPacket>) {
     match found {
-        Found::NotIp => print_word(b"none 0 0 0 "),
-        Found::Ip {
-            hash_type,
-            addresses,
-            ports,
-            end,
-        } => {
-            print_kind(hash_type);
-            print_number(b" ", addresses as u64);
-            print_number(b" ", ports as u64);
-            print_number(b" ", end as u64);
+        None => print_word(b"none 0 0 0 "),
+        Some(ip) => {
+            print_word(type_name(ip.hash_type));
+            print_number(b" ", ip.addresses as u64);
+            print_number(b" ", ip.ports as u64);
+            print_number(b" ", ip.end as u64);
             print_word(b" ");
         }
     }
 }
 
-fn print_kind(hash_type: u8) {
+fn type_name(hash_type: HashType) -> &'static [u8] {
     match hash_type {
-        packet::IPV4 => print_word(b"ipv4"),
-        packet::IPV4_TCP => print_word(b"ipv4_tcp"),
-        packet::IPV6 => print_word(b"ipv6"),
-        _ => print_word(b"ipv6_tcp"),
+        HashType::Ipv4 => b"ipv4",
+        HashType::Ipv4Tcp => b"ipv4_tcp",
+        HashType::Ipv6 => b"ipv6",
+        HashType::Ipv6Tcp => b"ipv6_tcp",
     }
 }

@@ -1,24 +1,38 @@
 -- The counts while records are counted: with what is left they come to what all records come to.
-use Rattle.octets.specs.Prelude.{◌≡◌, refl, sym, ap, ◌∙◌, List, [], Bool, cond, ℕ, ◌+◌, ◌≤◌, ◌<◌, arith, length}
-use Rattle.octets.specs.Prelude.{get_or, length-set, replicate, get_or-set_same, get_or-set_other, eqb, eqb-true, eqb-false, eq-eqb}
+use Rattle.octets.specs.Prelude.{◌≡◌, refl, sym, ◌∙◌, List, [], Bool, cond, ℕ, ◌+◌, ◌≤◌, ◌<◌, arith, length}
+use Rattle.octets.specs.Prelude.{get_or, set, length-set, length-replicate, get_or-set_same, get_or-set_other, eqb, eqb-true, eqb-false, eq-eqb}
 use lib.ListN.{get_or-replicate}
 use Rattle.octets.specs.Outcome.{value, refused}
 use Rattle.octets.proofs.Truth.{by-test}
 use Rattle.octets.proofs.Outcomes.{test-refused}
-use Rattle.messages.specs.Settings.{Settings, max_queues}
+use Rattle.messages.specs.Settings.{Settings}
 use Rattle.steering.specs.Steering.{queue_in}
 use Rattle.capture.specs.Records.{record_wrong, Fall, no_record, one_more, all_of, captured_octets}
 use Rattle.capture.specs.declared.Link.{Link}
-use Rattle.report.specs.Counting.{choice_for, is_unhashed, unhashed_of, on_queue, rising, Tally, tally_of, counted_over}
-use Rattle.report.specs.Inner.{added_at, HasRoom, CountsOne}
-use Rattle.report.proofs.Tallies.{Adds, packets-add, octets-add, those-one, those-none, those-less, rising-same}
+use Rattle.report.specs.Counting.{choice_for, is_unhashed, unhashed_of, on_queue, tally_of, Counted, counted_over}
+use Rattle.report.specs.declared.Tally.{Tally}
+use Rattle.report.specs.Inner.{nothing, nothing_on, tally_with, tally_on, with_packet, HasRoom}
+use Rattle.report.proofs.Tallies.{Adds, packets-add, octets-add, those-one, those-none, those-less, rising-of}
 
--- an index of counts after an addition
-added : (counts : List ℕ) (q k n : ℕ) → q < length counts → get_or (added_at counts q n) k 0 ≡ get_or counts k 0 + cond (eqb q k) n 0
-added counts q k n inside =
-    by-test (λ (x : ℕ). get_or (added_at counts q n) k 0 ≡ get_or counts k 0 + x) (eqb q k) n 0
-    (λ e. rw (← eqb-true q k e) (get_or-set_same counts q (get_or counts q 0 + n) 0 inside))
-    (λ e. omega (arith, get_or-set_other counts q k (get_or counts q 0 + n) 0 (λ (d : k ≡ q). eqb-false q k e (sym d))))
+-- a part of a tally, which a packet of n octets makes greater by a weight
+record Part (part : Tally → ℕ) (more : ℕ → ℕ) : Type 0 where
+  none : part nothing ≡ 0
+  one : (t : Tally) (n : ℕ) → part (tally_with t n) ≡ part t + more n
+
+packets-part : Part (λ (t : Tally). t.packets) (λ (n : ℕ). 1)
+packets-part = record { none = refl; one = λ t n. refl }
+
+octets-part : Part (λ (t : Tally). t.octets) (λ (n : ℕ). n)
+octets-part = record { none = refl; one = λ t n. refl }
+
+-- the tally of each queue once a packet was counted
+counted : {part : Tally → ℕ} {more : ℕ → ℕ} (p : Part part more) (tallies : List Tally) (q k n : ℕ) → q < length tallies
+    → part (get_or (set tallies q (tally_with (get_or tallies q nothing) n)) k nothing) ≡ part (get_or tallies k nothing) + cond (eqb q k) (more n) 0
+counted {part} {more} p tallies q k n inside =
+    let t : Tally = tally_with (get_or tallies q nothing) n in
+    by-test (λ (x : ℕ). part (get_or (set tallies q t) k nothing) ≡ part (get_or tallies k nothing) + x) (eqb q k) (more n) 0
+    (λ e. rw (← eqb-true q k e, get_or-set_same tallies q t nothing inside) (p.one (get_or tallies q nothing) n))
+    (λ e. rw (get_or-set_other tallies q k t nothing (λ (d : k ≡ q). eqb-false q k e (sym d))) (omega arith))
 
 module _ (s : Settings) (link : Link) where
   abbrev on : ℕ → List ℕ → Bool
@@ -27,107 +41,107 @@ module _ (s : Settings) (link : Link) where
   abbrev no-hash : List ℕ → Bool
   no-hash r = is_unhashed (choice_for s link r)
 
-  -- counts of a size, queue by queue
-  pub record ByQueue (size : List (List ℕ) → ℕ) (all rest : Fall) (counts : List ℕ) : Type 0 where
-    pub long : length counts ≡ max_queues
-    pub at : (k : ℕ) → k < max_queues → get_or counts k 0 + size (on_queue s link k rest.records) ≡ size (on_queue s link k all.records)
+  -- a part of the tallies, queue by queue
+  abbrev ByQueue : (part : Tally → ℕ) (size : List (List ℕ) → ℕ) (all rest : Fall) (c : Counted) → Type 0
+  ByQueue part size all rest c =
+      (k : ℕ) → k < s.queues → part (tally_on c k) + size (on_queue s link k rest.records) ≡ size (on_queue s link k all.records)
 
   -- the counts so far, of `all` what stands before `rest`
-  pub record Counting (all rest : Fall) (ps os : List ℕ) (u p o : ℕ) : Type 0 where
+  pub record Counting (all rest : Fall) (c : Counted) : Type 0 where
     pub left : rest.left ≡ all.left
-    pub packets : ByQueue length all rest ps
-    pub octets : ByQueue captured_octets all rest os
-    pub unhashed : u + length (unhashed_of s link rest.records) ≡ length (unhashed_of s link all.records)
-    pub total-packets : p + length rest.records ≡ length all.records
-    pub total-octets : o + captured_octets rest.records ≡ captured_octets all.records
+    pub long : length c.queues ≡ s.queues
+    pub packets : ByQueue (λ (t : Tally). t.packets) length all rest c
+    pub octets : ByQueue (λ (t : Tally). t.octets) captured_octets all rest c
+    pub unhashed : c.unhashed + length (unhashed_of s link rest.records) ≡ length (unhashed_of s link all.records)
+    pub total-packets : c.total.packets + length rest.records ≡ length all.records
+    pub total-octets : c.total.octets + captured_octets rest.records ≡ captured_octets all.records
 
   -- before the first
-  pub counting-none : (all : Fall) → Counting all all (replicate max_queues 0) (replicate max_queues 0) 0 0 0
+  pub counting-none : (all : Fall) → Counting all all (nothing_on s.queues)
   counting-none all =
       record {
         left = refl;
-        packets = none length;
-        octets = none captured_octets;
+        long = length-replicate s.queues nothing;
+        packets = none packets-part length;
+        octets = none octets-part captured_octets;
         unhashed = omega arith;
         total-packets = omega arith;
         total-octets = omega arith;
       }
     where
-      none : (size : List (List ℕ) → ℕ) → ByQueue size all all (replicate max_queues 0)
-      none size = record { long = refl; at = λ k l. rw (get_or-replicate {A = ℕ} max_queues k 0 0 l) (omega arith) }
+      none : {part : Tally → ℕ} {more : ℕ → ℕ} (p : Part part more) (size : List (List ℕ) → ℕ) → ByQueue part size all all (nothing_on s.queues)
+      none p size k l = rw (get_or-replicate {A = Tally} s.queues k nothing nothing l, p.none) (omega arith)
 
   -- one record more
-  module _ (all rest : Fall) (r : List ℕ) (below : queue_in (choice_for s link r) < max_queues) where
+  module _ (all rest : Fall) (r : List ℕ) (below : queue_in (choice_for s link r) < s.queues) where
     abbrev q : ℕ
     q = queue_in (choice_for s link r)
 
-    module _ {weight : List ℕ → ℕ} {size : List (List ℕ) → ℕ} (adds : Adds weight size) (counts : List ℕ)
-        (c : ByQueue size all (one_more r rest) counts) where
-      queue-room : get_or counts q 0 + weight r ≤ size all.records
-      queue-room =
-          let own = rw (eq-eqb q q refl) at (those-one adds (on q) r rest.records) in
-          omega (arith, c.at q below, own, those-less adds (on q) all.records)
+    module _ {part : Tally → ℕ} {more : ℕ → ℕ} (p : Part part more) {weight : List ℕ → ℕ} {size : List (List ℕ) → ℕ}
+        (adds : Adds weight size) (same : more (length r) ≡ weight r) (c : Counted) (so : ByQueue part size all (one_more r rest) c)
+      where
+        queue-room : part (tally_on c q) + weight r ≤ size all.records
+        queue-room =
+            let own = rw (eq-eqb q q refl) at (those-one adds (on q) r rest.records) in
+            omega (arith, so q below, own, those-less adds (on q) all.records)
 
-      queue-next : (counts' : List ℕ) → counts' ≡ added_at counts q (weight r) → ByQueue size all rest counts'
-      queue-next counts' e =
-          let inside : q < length counts = omega (arith, below, c.long) in
-          record {
-            long = ap length e ∙ length-set counts q (get_or counts q 0 + weight r) ∙ c.long;
-            at = λ k l. rw e (omega (arith, added counts q k (weight r) inside, c.at k l, those-one adds (on k) r rest.records));
-          }
+        queue-next : length c.queues ≡ s.queues → ByQueue part size all rest (with_packet (choice_for s link r) (length r) c)
+        queue-next long k l =
+            let next = rw same at (counted p c.queues q k (length r) (omega (arith, below, long))) in
+            omega (arith, next, so k l, those-one adds (on k) r rest.records)
 
-    module _ {ps os : List ℕ} {u p o : ℕ} (c : Counting all (one_more r rest) ps os u p o) where
+    module _ {c : Counted} (so : Counting all (one_more r rest) c) where
       -- it has room, where all records together are not too many
-      pub counting-room : length all.records + captured_octets all.records ≤ 65536 → HasRoom (choice_for s link r) (length r) ps os
+      pub counting-room : length all.records + captured_octets all.records ≤ 65536 → HasRoom (choice_for s link r) (length r) c
       counting-room most =
+          let packets = queue-room packets-part packets-add refl c so.packets in
+          let octets = queue-room octets-part octets-add refl c so.octets in
+          let unhashed = those-less packets-add no-hash all.records in
           record {
-            queue = below;
-            one = omega (arith, queue-room packets-add ps c.packets);
-            all = omega (arith, queue-room octets-add os c.octets);
+            queue = omega (arith, below, so.long);
+            tally = record { packets = omega arith; octets = omega arith };
+            unhashed = omega (arith, so.unhashed);
+            total = record {
+              packets = omega (arith, so.total-packets);
+              octets = omega (arith, so.total-octets, octets-add.one r rest.records);
+            };
           }
 
       -- and is counted
-      pub counting-next : {ps' os' : List ℕ} {d : ℕ} → CountsOne (choice_for s link r) (length r) ps os ps' os' d → (n : ℕ) → length r ≡ n
-          → Counting all rest ps' os' (u + d) (p + 1) (o + n)
-      counting-next one n size =
+      pub counting-next : Counting all rest (with_packet (choice_for s link r) (length r) c)
+      counting-next =
           record {
-            left = c.left;
-            packets = queue-next packets-add ps c.packets _ one.one;
-            octets = queue-next octets-add os c.octets _ one.all;
-            unhashed = omega (arith, one.hash, c.unhashed, those-one packets-add no-hash r rest.records);
-            total-packets = omega (arith, c.total-packets);
-            total-octets = omega (arith, c.total-octets, octets-add.one r rest.records, size);
+            left = so.left;
+            long = length-set c.queues q _ ∙ so.long;
+            packets = queue-next packets-part packets-add refl c so.packets so.long;
+            octets = queue-next octets-part octets-add refl c so.octets so.long;
+            unhashed = omega (arith, so.unhashed, those-one packets-add no-hash r rest.records);
+            total-packets = omega (arith, so.total-packets);
+            total-octets = omega (arith, so.total-octets, octets-add.one r rest.records);
           }
 
-module _ {s : Settings} {link : Link} {all rest : Fall} {ps os : List ℕ} {u p o : ℕ} (c : Counting s link all rest ps os u p o) where
-  -- nothing runs over
-  pub counting-fits : length all.records + captured_octets all.records ≤ 65536 → (u ≤ 65536) × (p ≤ 65536) × (o ≤ 65536)
-  counting-fits most = let fewer = those-less packets-add (no-hash s link) all.records in (omega arith, omega arith, omega arith)
-
-  -- and where what is left is bad, all is
-  pub counting-bad : (n : ℕ) → all_of rest ≡ refused n → all_of all ≡ refused record_wrong
-  counting-bad n e = rw (← c.left, (test-refused (eqb (length rest.left) 0) rest.records record_wrong n e).0) refl
+-- where what is left is bad, all is
+pub counting-bad : {s : Settings} {link : Link} {all rest : Fall} {c : Counted} → Counting s link all rest c → (n : ℕ) → all_of rest ≡ refused n
+    → all_of all ≡ refused record_wrong
+counting-bad {s} {link} {all} {rest} so n e =
+    rw (← so.left, (test-refused (eqb (length rest.left) 0) rest.records record_wrong n e).0) refl
 
 -- behind the last
-module _ {s : Settings} {link : Link} {all : Fall} {ps os : List ℕ} {u p o : ℕ} (c : Counting s link all (no_record []) ps os u p o) where
+module _ {s : Settings} {link : Link} {all : Fall} {c : Counted} (so : Counting s link all (no_record []) c) where
   pub counting-all : all_of all ≡ value all.records
-  counting-all = rw (← c.left) refl
+  counting-all = rw (← so.left) refl
 
-  abbrev tally-at : ℕ → Tally
-  tally-at k = record { packets = get_or ps k 0; octets = get_or os k 0 }
-
-  pub counting-done : s.queues ≤ max_queues
-      → record { queues = rising s.queues tally-at; unhashed = u; total = record { packets = p; octets = o } }
-      ≡ counted_over s link all.records
+  pub counting-done : c ≡ counted_over s link all.records
   unfolding counted_over
-  counting-done few =
-      let same = rising-same s.queues tally-at (λ (k : ℕ). tally_of (on_queue s link k all.records)) (λ k l.
-      let packets : get_or ps k 0 ≡ length (on_queue s link k all.records) =
-      omega (arith, c.packets.at k (omega arith), those-none packets-add (on s link k)) in
-      let octets : get_or os k 0 ≡ captured_octets (on_queue s link k all.records) =
-      omega (arith, c.octets.at k (omega arith), those-none octets-add (on s link k)) in
-      rw (packets, octets) refl) in
-      let unhashed : u ≡ length (unhashed_of s link all.records) = omega (arith, c.unhashed, those-none packets-add (no-hash s link)) in
-      let packets : p ≡ length all.records = omega (arith, c.total-packets) in
-      let octets : o ≡ captured_octets all.records = omega (arith, c.total-octets, octets-add.none) in
-      rw (same, unhashed, packets, octets) refl
+  counting-done =
+      let f : ℕ → Tally = λ (k : ℕ). tally_of (on_queue s link k all.records) in
+      let queues = rising-of s.queues f c.queues nothing so.long (λ k l.
+      let packets : (tally_on c k).packets ≡ length (on_queue s link k all.records) =
+      omega (arith, so.packets k l, those-none packets-add (on s link k)) in
+      let octets : (tally_on c k).octets ≡ captured_octets (on_queue s link k all.records) =
+      omega (arith, so.octets k l, those-none octets-add (on s link k)) in
+      rw (← packets, ← octets) refl) in
+      let unhashed : c.unhashed ≡ length (unhashed_of s link all.records) = omega (arith, so.unhashed, those-none packets-add (no-hash s link)) in
+      let packets : c.total.packets ≡ length all.records = omega (arith, so.total-packets) in
+      let octets : c.total.octets ≡ captured_octets all.records = omega (arith, so.total-octets, octets-add.none) in
+      rw (← queues, ← unhashed, ← packets, ← octets) refl

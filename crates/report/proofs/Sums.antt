@@ -1,6 +1,7 @@
 -- Counts of every queue added up.
 use Rattle.octets.specs.Prelude.{◌≡◌, refl, List, [], ◌∷◌, Bool, ℕ, zero, suc, ◌+◌, ◌<◌, arith, eqb, eq-eqb, ne_eqb}
-use Rattle.report.specs.Counting.{Tally, tally_of, those, rising, sum_of}
+use Rattle.report.specs.Counting.{tally_of, those, rising, sum_of}
+use Rattle.report.specs.declared.Tally.{Tally}
 use Rattle.report.proofs.Tallies.{Adds, packets-add, octets-add, those-one, those-none}
 
 -- f 0 + f 1 + .. + f (n - 1)

@@ -1,7 +1,9 @@
 -- Laws of what is counted: record by record, and queue by queue.
-use Rattle.octets.specs.Prelude.{◌≡◌, refl, ap₂, List, [], ◌∷◌, Bool, true, false, cond, ℕ, zero, suc, ◌+◌, ◌≤◌, ◌<◌, arith, length}
+use Rattle.octets.specs.Prelude.{◌≡◌, refl, ◌∙◌, ap₂, List, [], ◌∷◌, Bool, true, false, cond, ℕ, zero, suc, ◌+◌, ◌≤◌, ◌<◌, arith, length, get_or}
 use Rattle.capture.specs.Records.{captured_octets}
 use Rattle.report.specs.Counting.{those, rising}
+use Rattle.report.specs.declared.Tally.{Tally}
+use Rattle.report.specs.Inner.{nothing}
 
 -- a size of records that is the sum of what each weighs
 pub record Adds (weight : List ℕ → ℕ) (size : List (List ℕ) → ℕ) : Type 0 where
@@ -39,8 +41,16 @@ module _ {weight : List ℕ → ℕ} {size : List (List ℕ) → ℕ} (adds : Ad
       part true = omega arith
       part false = omega arith
 
--- lists made alike are equal
-pub rising-same : {A : Type 0} (n : ℕ) (f g : ℕ → A) → ((k : ℕ) → k < n → f k ≡ g k) → rising n f ≡ rising n g
+-- a list is what rises over its elements
+pub rising-of : {A : Type 0} (n : ℕ) (f : ℕ → A) (xs : List A) (d : A) → length xs ≡ n → ((k : ℕ) → k < n → get_or xs k d ≡ f k) → xs ≡ rising n f
 unfolding rising
-rising-same zero f g h = refl
-rising-same (suc n) f g h = ap₂ ◌∷◌ (h 0 (omega arith)) (rising-same n (λ k. f (suc k)) (λ k. g (suc k)) (λ k l. h (suc k) (omega arith)))
+rising-of zero f [] d e h = refl
+rising-of zero f (x ∷ xs) d e h = absurd (omega arith)
+rising-of (suc n) f [] d e h = absurd (omega arith)
+rising-of (suc n) f (x ∷ xs) d e h = ap₂ ◌∷◌ (h 0 (omega arith)) (rising-of n (λ k. f (suc k)) xs d (omega arith) (λ k l. h (suc k) (omega arith)))
+
+-- a new tally
+pub blank : (t : Tally) → (t.packets ≡ 0) × (t.octets ≡ 0) → t ≡ nothing
+blank t e =
+    let same : t ≡ record { packets = t.packets; octets = t.octets } = refl in
+    same ∙ rw (e.0, e.1) refl

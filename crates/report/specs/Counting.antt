@@ -7,12 +7,9 @@ use Rattle.interface.specs.States.{steered_by}
 use Rattle.capture.specs.Records.{captured_octets}
 use Rattle.capture.specs.Packets.{ip_part}
 use Rattle.capture.specs.declared.Link.{Link}
+use Rattle.report.specs.declared.Tally.{Tally}
 
 -- what one line counts: packets, and their captured octets
-pub record Tally : Type 0 where
-  pub packets : ℕ
-  pub octets : ℕ
-
 abbrev pub tally_of : List (List ℕ) → Tally
 tally_of rs = record { packets = length rs; octets = captured_octets rs }
 

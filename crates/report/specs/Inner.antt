@@ -1,35 +1,40 @@
 -- What the inner functions promise: no part of the public promise.
-use Rattle.std.specs.Prelude.{◌≡◌, ◌+◌, ◌^◌, ◌<◌}
-use Rattle.octets.specs.Prelude.{List, cond, ℕ, get_or, set}
-use Rattle.messages.specs.Settings.{max_queues}
+use Rattle.std.specs.Prelude.{◌+◌, ◌^◌, ◌<◌, slice_index_or, slice_set}
+use Rattle.octets.specs.Prelude.{cond, ℕ, length, replicate}
 use Rattle.steering.specs.Steering.{Choice, queue_in}
-use Rattle.report.specs.Counting.{is_unhashed}
-use Rattle.report.specs.declared.Counts.{Counts}
+use Rattle.report.specs.Counting.{is_unhashed, Counted}
+use Rattle.report.specs.declared.Tally.{Tally}
 
--- counts with n more at index k
-abbrev pub added_at : List ℕ → ℕ → ℕ → List ℕ
-added_at counts k n = set counts k (get_or counts k 0 + n)
+abbrev pub nothing : Tally
+nothing = record { packets = 0; octets = 0 }
 
--- counts that one record more of n octets does not run over, under its choice
-pub record HasRoom (choice : Choice) (n : ℕ) (packets octets : List ℕ) : Type 0 where
-  pub queue : queue_in choice < max_queues
-  pub one : get_or packets (queue_in choice) 0 + 1 < 2 ^ 32
-  pub all : get_or octets (queue_in choice) 0 + n < 2 ^ 32
+-- one packet more, of n octets
+abbrev pub tally_with : Tally → ℕ → Tally
+tally_with t n = record { packets = t.packets + 1; octets = t.octets + n }
 
--- one record of n octets counted under its choice
-pub record CountsOne (choice : Choice) (n : ℕ) (packets octets packets' octets' : List ℕ) (unhashed : ℕ) : Type 0 where
-  pub one : packets' ≡ added_at packets (queue_in choice) 1
-  pub all : octets' ≡ added_at octets (queue_in choice) n
-  pub hash : unhashed ≡ cond (is_unhashed choice) 1 0
+abbrev pub nothing_on : ℕ → Counted
+nothing_on queues = record { queues = replicate queues nothing; unhashed = 0; total = nothing }
 
--- counts by their parts
-abbrev pub counts_of : ℕ → List ℕ → List ℕ → ℕ → ℕ → ℕ → Counts
-counts_of queues packets octets unhashed all_packets all_octets =
+-- the tally of a queue
+abbrev pub tally_on : Counted → ℕ → Tally
+tally_on c queue = slice_index_or c.queues queue nothing
+
+abbrev pub with_packet : Choice → ℕ → Counted → Counted
+with_packet choice n c =
     record {
-      queues = queues;
-      packets = packets;
-      octets = octets;
-      unhashed = unhashed;
-      total_packets = all_packets;
-      total_octets = all_octets;
+      queues = slice_set c.queues (queue_in choice) (tally_with (tally_on c (queue_in choice)) n);
+      unhashed = c.unhashed + cond (is_unhashed choice) 1 0;
+      total = tally_with c.total n;
     }
+
+-- a tally that one packet more of n octets does not run over
+pub record TallyHasRoom (t : Tally) (n : ℕ) : Type 0 where
+  pub packets : t.packets + 1 < 2 ^ 32
+  pub octets : t.octets + n < 2 ^ 32
+
+-- counts that one packet more does not run over
+pub record HasRoom (choice : Choice) (n : ℕ) (c : Counted) : Type 0 where
+  pub queue : queue_in choice < length c.queues
+  pub tally : TallyHasRoom (tally_on c (queue_in choice)) n
+  pub unhashed : c.unhashed + 1 < 2 ^ 32
+  pub total : TallyHasRoom c.total n

@@ -1,15 +1,16 @@
 -- The report on a settings file and a capture.
-use Rattle.std.specs.Prelude.{◌&&◌}
-use Rattle.octets.specs.Prelude.{List, cond, ℕ, length, get_or, leb}
+use Rattle.std.specs.Prelude.{◌&&◌, Result, Ok, Err}
+use Rattle.octets.specs.Prelude.{List, cond, ℕ, length, leb}
 use Rattle.octets.specs.Outcome.{Outcome, value, refused, and_then}
 use Rattle.messages.specs.Settings.{Settings}
-use Rattle.capture.specs.Header.{header_outcome}
-use Rattle.capture.specs.Records.{records_outcome}
+use Rattle.capture.specs.Header.{header_wrong, header_outcome}
+use Rattle.capture.specs.Records.{record_wrong, records_outcome}
 use Rattle.capture.specs.declared.Link.{Link}
-use Rattle.settings_file.specs.Loading.{settings_outcome, outcome_of}
-use Rattle.report.specs.Counting.{rising, Counted, counted_over}
+use Rattle.settings_file.specs.Loading.{settings_refusal_number, settings_outcome}
+use Rattle.report.specs.Counting.{Counted, counted_over}
 use Rattle.report.specs.declared.Counts.{Counts}
-use Rattle.report.specs.declared.Report.{Report}
+use Rattle.report.specs.declared.ReportRefusal.{ReportRefusal}
+use Rattle.report.specs.declared.ReportRefusal.TheVariants.{FileTooLong, Settings as SettingsRefused, Header, Record}
 
 -- refusal 23: either file above 65,536 octets
 abbrev pub file_too_long : ℕ
@@ -32,14 +33,17 @@ report_on settings capture =
     cond (leb (length settings) max_file && leb (length capture) max_file)
     (and_then (settings_outcome settings) (λ (s : Settings). report_under s capture)) (refused file_too_long)
 
--- what counts stand for: of the arrays, what belongs to the queues in operation
-abbrev pub counted_of : Counts → Counted
-counted_of c =
-    record {
-      queues = rising c.queues (λ (k : ℕ). record { packets = get_or c.packets k 0; octets = get_or c.octets k 0 });
-      unhashed = c.unhashed;
-      total = record { packets = c.total_packets; octets = c.total_octets };
-    }
+-- the number that each refusal stands for
+abbrev pub report_refusal_number : ReportRefusal → ℕ
+report_refusal_number FileTooLong = file_too_long
+report_refusal_number (SettingsRefused e) = settings_refusal_number e
+report_refusal_number (Header e) = header_wrong
+report_refusal_number (Record e) = record_wrong
 
-abbrev pub report_of : Report → Outcome Counted
-report_of r = outcome_of r.answer (counted_of r.counts)
+-- what counts stand for, and what an answer says
+abbrev pub counted_of : Counts → Counted
+counted_of c = record { queues = c.queues.items; unhashed = c.unhashed; total = c.total }
+
+abbrev pub report_of : Result Counts ReportRefusal → Outcome Counted
+report_of (Ok counts) = value (counted_of counts)
+report_of (Err e) = refused (report_refusal_number e)

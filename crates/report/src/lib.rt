@@ -1,72 +1,80 @@
 // How the packets of a capture spread over the queues of an interface with the settings of a file.
 #![tactic(auto)]
 
-ghost use Rattle.std.specs.Prelude.{◌≡◌, ◌≤◌};
+ghost use Rattle.std.specs.Prelude.{◌≡◌, ◌≤◌, IfOk};
 ghost use Rattle.octets.specs.Prelude.{length};
 ghost use Rattle.messages.specs.Settings.{max_queues, Good};
-ghost use Rattle.settings_file.specs.Loading.{settings_held};
-ghost use Rattle.report.specs.Reports.{max_file, report_under, report_on, report_of};
+ghost use Rattle.interface.specs.States.{settings_in};
+ghost use Rattle.report.specs.Reports.{max_file, report_over, report_on, report_of};
 
-mod count;
+mod counting;
+mod refusals;
 
-use capture::{HEADER_WRONG, HeaderAnswer};
-use count::refused;
-pub use settings_file::Answer;
-
-// The refusal of a file that is too long.
-pub const FILE_TOO_LONG: u8 = 23;
+use arrayvec::ArrayVec;
+use capture::{HeaderWrong, Link, Reader, RecordWrong};
+use interface::Interface;
+use settings_file::SettingsRefusal;
 
 // The most octets of a file, and the most queues.
 pub const MAX_FILE: usize = 65536;
 
 pub const MAX_QUEUES: usize = interface::MAX_QUEUES as usize;
 
-// Packets and captured octets for each queue, of which the first `queues` are in operation; how many packets have no
-// hash, which are counted on queue 0 too; and the total.
-#[derive(Clone, Copy)]
-pub struct Counts {
-    pub queues: u8,
-    pub packets: [u32; MAX_QUEUES],
-    pub octets: [u32; MAX_QUEUES],
-    pub unhashed: u32,
-    pub total_packets: u32,
-    pub total_octets: u32,
+// Packets, and their captured octets.
+#[derive(Clone, Copy, Debug, Default, PartialEq, Eq)]
+pub struct Tally {
+    pub packets: u32,
+    pub octets: u32,
 }
 
-// Where the answer is a refusal, all counts are 0.
-#[derive(Drop)]
-pub struct Report {
-    pub answer: Answer,
-    pub counts: Counts,
+// A tally for each queue in operation; how many packets have no hash, which are counted on queue 0 too; and the total.
+#[derive(Debug, Drop)]
+pub struct Counts {
+    pub queues: ArrayVec<Tally, MAX_QUEUES>,
+    pub unhashed: u32,
+    pub total: Tally,
+}
+
+// Why there is no report.
+#[derive(Clone, Copy, Debug, PartialEq, Eq)]
+pub enum ReportRefusal {
+    // A file has more than 65,536 octets.
+    FileTooLong,
+    Settings(SettingsRefusal),
+    Header(HeaderWrong),
+    Record(RecordWrong),
 }
 
 // The report on a settings file and a capture.
 #[tactic(auto, unfolding(crate::specs::Reports::report_on))]
-pub fn report_on(settings: &[u8], captured: &[u8]) -> Report
-    ensures { (report_of result ≡ report_on settings.now captured.now) × (result.counts.queues ≤ max_queues) }
+pub fn report_on(settings: &[u8], captured: &[u8]) -> Result<Counts, ReportRefusal>
+    ensures counts { report_of result ≡ report_on settings.now captured.now }
+    ensures queues { IfOk result (λ c. length c.queues.items ≤ max_queues) }
 {
-    if settings.len() > MAX_FILE {
-        return refused(FILE_TOO_LONG);
+    if settings.len().max(captured.len()) > MAX_FILE {
+        return Err(ReportRefusal::FileTooLong);
     }
-    if captured.len() > MAX_FILE {
-        return refused(FILE_TOO_LONG);
-    }
-    let loaded = settings_file::load_settings(settings);
-    let answer = loaded.answer;
-    match answer {
-        Answer::Done => report_under(loaded.settings, captured),
-        Answer::Refused(number) => refused(number),
-    }
+    let interface = settings_file::load_settings(settings)?;
+    let link = link_types::header(captured)?;
+    count_records(&interface, link, captured)
 }
 
-// The same under settings that are loaded.
-fn report_under(settings: settings_file::Held, captured: &[u8]) -> Report
-    requires { Good (settings_held settings) × (length captured.now ≤ max_file) }
-    ensures { (report_of result ≡ report_under (settings_held settings) captured.now) × (result.counts.queues ≤ max_queues) }
+// Counts the records of a capture one after the other.
+fn count_records(
+    interface: &Interface,
+    link: Link,
+    captured: &[u8],
+) -> Result<Counts, ReportRefusal>
+    requires { Good (settings_in interface.now) × (length captured.now ≤ max_file) }
+    ensures counts { report_of result ≡ report_over (settings_in interface.now) link captured.now }
+    ensures queues { IfOk result (λ c. length c.queues.items ≤ max_queues) }
 {
-    let header = link_types::header(captured);
-    match header {
-        HeaderAnswer::Good(link) => count::count_records(settings, link, captured),
-        HeaderAnswer::Bad => refused(HEADER_WRONG),
+    let mut counts = Counts::none(interface.queues as usize);
+    for record in Reader::open(captured) {
+        let record = record?;
+        let frame = &captured[record.start..record.end];
+        let choice = interface.steer(link_types::ip_part(link, frame));
+        counts.add(choice, frame.len() as u32);
     }
+    Ok(counts)
 }

@@ -1,27 +1,33 @@
 -- The lines of queues: one queue more is one line more, behind the others.
-use Rattle.octets.specs.Prelude.{◌≡◌, sym, ap, ◌∙◌, List, ◌++◌, append_assoc, append-nil, ℕ, zero, suc, ◌+◌, add-one, arith, get_or}
-use Rattle.report.specs.Counting.{Tally, rising}
+use Rattle.octets.specs.Prelude.{◌≡◌, refl, sym, ap, ◌∙◌, List, [], ◌∷◌, ◌++◌, append_assoc, append-nil, ℕ, suc, ◌+◌, ◌<◌, add-one, add-zero, arith}
+use Rattle.octets.specs.Prelude.{length, get_or, take, length-take-le}
+use lib.Seq.{take-suc}
+use Rattle.report.specs.declared.Tally.{Tally}
 use Rattle.report_text.specs.ReportLines.{queue_line, queue_lines}
 
--- what two arrays count of queue k
-abbrev pub tally_at : List ℕ → List ℕ → ℕ → Tally
-tally_at packets octets k = record { packets = get_or packets k 0; octets = get_or octets k 0 }
+lines-append : (j : ℕ) (xs ys : List Tally) → queue_lines j (xs ++ ys) ≡ queue_lines j xs ++ queue_lines (j + length xs) ys
+unfolding queue_lines
+lines-append j [] ys = ap (λ (k : ℕ). queue_lines k ys) (sym (add-zero j))
+lines-append j (x ∷ xs) ys =
+    let place : suc j + length xs ≡ j + suc (length xs) = omega arith in
+    ap (λ (l : List ℕ). queue_line j x ++ l) (rw place at (lines-append (suc j) xs ys))
+    ∙ sym (append_assoc (queue_line j x) (queue_lines (suc j) xs) (queue_lines (j + suc (length xs)) ys))
 
--- the lines of n + 1 queues from queue j on: those of n queues, then the line of queue j + n
-lines_more : (n j : ℕ) (f : ℕ → Tally) → queue_lines j (rising (suc n) f) ≡ queue_lines j (rising n f) ++ queue_line (j + n) (f n)
-unfolding queue_lines rising
-lines_more zero j f =
-    let same : j ≡ j + 0 = omega arith in
-    append-nil (queue_line j (f 0)) ∙ ap (λ (i : ℕ). queue_line i (f 0)) same
-lines_more (suc n) j f =
-    let same : suc j + n ≡ j + suc n = omega arith in
-    let g : ℕ → Tally = λ (k : ℕ). f (suc k) in
-    ap (λ (l : List ℕ). queue_line j (f 0) ++ l) (lines_more n (suc j) g)
-    ∙ sym (append_assoc (queue_line j (f 0)) (queue_lines (suc j) (rising n g)) (queue_line (suc j + n) (f (suc n))))
-    ∙ ap (λ (i : ℕ). (queue_line j (f 0) ++ queue_lines (suc j) (rising n g)) ++ queue_line i (f (suc n))) same
+lines_one : (j : ℕ) (t : Tally) → queue_lines j (t ∷ []) ≡ queue_line j t
+unfolding queue_lines
+lines_one j t = append-nil (queue_line j t)
 
--- and from queue 0 on, as the loop counts
-pub lines_next : (k : ℕ) (f : ℕ → Tally) → queue_lines 0 (rising (k + 1) f) ≡ queue_lines 0 (rising k f) ++ queue_line k (f k)
-lines_next k f =
-    let same : 0 + k ≡ k = omega arith in
-    rw add-one (lines_more k 0 f ∙ ap (λ (i : ℕ). queue_lines 0 (rising k f) ++ queue_line i (f k)) same)
+-- from queue 0 on, as the loop goes over the tallies
+pub lines_none : queue_lines 0 [] ≡ []
+unfolding queue_lines
+lines_none = refl
+
+pub lines_next : (tallies : List Tally) (k : ℕ) (d : Tally) → k < length tallies
+    → queue_lines 0 (take (k + 1) tallies) ≡ queue_lines 0 (take k tallies) ++ queue_line k (get_or tallies k d)
+lines_next tallies k d inside =
+    let n : 0 + length (take k tallies) ≡ k = omega (arith, length-take-le k tallies (omega arith)) in
+    let t : Tally = get_or tallies k d in
+    ap (λ (i : ℕ). queue_lines 0 (take i tallies)) (add-one k)
+    ∙ ap (queue_lines 0) (take-suc tallies k d inside)
+    ∙ lines-append 0 (take k tallies) (t ∷ [])
+    ∙ ap (λ (l : List ℕ). queue_lines 0 (take k tallies) ++ l) (lines_one (0 + length (take k tallies)) t ∙ ap (λ (i : ℕ). queue_line i t) n)

@@ -1,10 +1,13 @@
 -- The lines of a report.
-use Rattle.std.specs.Prelude.{◌∷◌, ◌++◌}
+use Rattle.std.specs.Prelude.{◌∷◌, ◌++◌, ◌+◌, ◌*◌}
 use Rattle.octets.specs.Prelude.{List, [], ℕ, suc}
 use Rattle.octets.specs.Outcome.{Outcome, value, refused}
 use Rattle.text.specs.Ascii.{ascii, decimal}
+use Rattle.text.specs.Text.{longest_line}
+use Rattle.messages.specs.Settings.{max_queues}
 use Rattle.text.specs.Lines.{number_line, refusal_line}
-use Rattle.report.specs.Counting.{Tally, Counted}
+use Rattle.report.specs.Counting.{Counted}
+use Rattle.report.specs.declared.Tally.{Tally}
 use Rattle.report.specs.Reports.{report_on}
 
 -- the most octets of a line: numbers of at most 20 digits
@@ -13,6 +16,10 @@ longest_tally = 42
 
 abbrev pub longest_queue : ℕ
 longest_queue = 69
+
+-- and of a report: the lines of 64 queues, the line of a number, a word of six octets and a tally
+abbrev pub longest_report : ℕ
+longest_report = max_queues * longest_queue + longest_line + 6 + longest_tally
 
 -- packets, captured octets and the line's end
 abbrev pub tally_line : Tally → List ℕ

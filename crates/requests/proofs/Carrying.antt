@@ -1,8 +1,8 @@
 -- A request carried out leaves its settings and its ack, and the next request begins.
-use Rattle.std.specs.Prelude.{Err}
+use Rattle.std.specs.Prelude.{Result, Ok, Err, IsErrAnd}
 use Rattle.octets.specs.Prelude.{◌≡◌, refl, ap, List, ℕ}
 use Rattle.messages.specs.Settings.{Settings}
-use Rattle.messages.specs.Requests.{Request, get_flags, set_flags, set_key, set_mapping, none, named, refusal_status, Carried}
+use Rattle.messages.specs.Requests.{Request, get_flags, set_flags, set_key, set_mapping, none, named, status_told, Carried}
 use Rattle.messages.specs.Inner.{Leaves}
 use Rattle.messages.specs.declared.Refusal.{Refusal}
 use Rattle.messages.specs.declared.Refusal.TheVariants.{NotSupported}
@@ -37,7 +37,9 @@ unnamed-refusal set_key e h = absurd cc
 unnamed-refusal set_mapping e h = absurd cc
 unnamed-refusal none e h = (refl, cc)
 
-pub unnamed : (r : Request) (e : Refusal) → Err e ≡ named r → (s : Settings) (n : ℕ) (p : List ℕ) → Leaves r s n p (refusal_status e) s
-unnamed r e h s n p =
-    let both = unnamed-refusal r e h in
-    rw (both.0, both.1) (carried-refused none s n p 0 (none-supported s.queues n p))
+pub unnamed : (q : Request) (r : Result Unit Refusal) (e : Refusal) → Err e ≡ named q → IsErrAnd r (λ f. f ≡ e)
+    → (s : Settings) (n : ℕ) (p : List ℕ) → Leaves q s n p (status_told r) s
+unnamed q (Ok u) e h same s n p = absurd same
+unnamed q (Err f) e h same s n p =
+    let none = unnamed-refusal q e h in
+    rw (same, none.0, none.1) (carried-refused _ s n p 0 (none-supported s.queues n p))

@@ -34,18 +34,17 @@ fn judge(i: &mut Interface, kind: u32, size: u32) -> Result<(), Refusal>
     ensures ring_stays { ((state_of i.new).incoming ≡ (state_of i.old).incoming)
         × ((state_of i.new).outgoing ≡ (state_of i.old).outgoing) }
 {
-    match RequestType::try_from(kind) {
-        Ok(RequestType::GetFlags) => judging::get_flags(size),
-        Ok(RequestType::SetFlags) => judging::set_flags(&mut i.flags, size, &i.payload),
-        Ok(RequestType::SetKey) => judging::set_key(&mut i.key, size, &i.payload),
-        Ok(RequestType::SetMapping) => judging::set_mapping(
+    match RequestType::try_from(kind)? {
+        RequestType::GetFlags => judging::get_flags(size),
+        RequestType::SetFlags => judging::set_flags(&mut i.flags, size, &i.payload),
+        RequestType::SetKey => judging::set_key(&mut i.key, size, &i.payload),
+        RequestType::SetMapping => judging::set_mapping(
             i.queues as u8,
             &mut i.entries,
             &mut i.entry_count,
             size,
             &i.payload,
         ),
-        Err(refusal) => Err(refusal),
     }
 }
 

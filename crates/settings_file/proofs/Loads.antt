@@ -16,12 +16,16 @@ use Rattle.interface.specs.States.{HostState, queues_wrong, interface_at_setup, 
 use Rattle.backend.specs.Streams.{messages_within, rest_within, rest_of, settings_after}
 use Rattle.backend.proofs.Falls.{falls-first, falls-none}
 use Rattle.settings_file.specs.Loading.{settings_wrong, all_succeed, settings_from, settings_outcome}
-use Rattle.settings_file.specs.Inner.{settings_set_up, Keeps}
+use Rattle.settings_file.specs.Inner.{Keeps}
 
 -- no octets leave the settings
 pub from-none : (s : Settings) → settings_from s [] ≡ value s
 unfolding settings_from all_succeed messages_within rest_within settings_after
 from-none s = refl
+
+pub from_empty : (s : Settings) (xs : List ℕ) → length xs ≡ 0 → settings_from s xs ≡ value s
+from_empty s [] e = from-none s
+from_empty s (x ∷ xs) e = absurd (omega arith)
 
 -- a message that is cut short
 pub from_cut : (s : Settings) (xs : List ℕ) → 0 < length xs → begins_whole xs ≡ false → settings_from s xs ≡ refused settings_wrong
@@ -74,21 +78,16 @@ by-setup P q passes refuses =
     by-test P (leb 1 q && leb q max_queues) _ _
     (λ e. let x = (both_true (leb 1 q) (leb q max_queues)).0 e in passes (leb-true 1 q x.0) (leb-true q max_queues x.1)) (λ e. refuses)
 
--- the settings that it leaves are good
-pub set-up-good : (q : ℕ) → Good (settings_set_up q)
-set-up-good q =
-    by-setup (λ (x : Outcome HostState). Good (placed itself x (interface_at_setup 1)).settings) q (good-at-setup q)
-    (good-at-setup 1 (omega arith) (omega arith))
-
--- the queue count of a file, and the messages behind it
--- a setup that is not done is refused
-pub set-up-told : (q : ℕ) → (number_of (set_up_outcome q) ≡ done → ⊥) → queues_wrong ≡ number_of (set_up_outcome q)
-set-up-told q =
-    by-setup (λ (x : Outcome HostState). (number_of x ≡ done → ⊥) → queues_wrong ≡ number_of x) q (λ _ _ z. absurd (z refl)) (λ _. refl)
+-- a setup that is done leaves good settings, whatever was there before
+pub set-up-good : (q : ℕ) (before : HostState) → number_of (set_up_outcome q) ≡ done → Good (placed itself (set_up_outcome q) before).settings
+set-up-good q before =
+    by-setup (λ (x : Outcome HostState). number_of x ≡ done → Good (placed itself x before).settings) q (λ l h _. good-at-setup q l h)
+    (λ z. absurd (omega (arith, z)))
 
 abbrev loaded : List ℕ → Outcome HostState → Outcome Settings
 loaded xs x = and_then x (λ (i : HostState). settings_from i.settings xs)
 
+-- the queue count of a file that is refused
 pub load-refused : (file : List ℕ) → queues_wrong ≡ number_of (set_up_outcome (get_or file 0 0)) → refused queues_wrong ≡ settings_outcome file
 unfolding settings_outcome
 load-refused [] e = refl
@@ -96,11 +95,21 @@ load-refused (q ∷ xs) e =
     by-setup (λ (x : Outcome HostState). queues_wrong ≡ number_of x → refused queues_wrong ≡ loaded xs x) q
     (λ _ _ z. absurd (omega (arith, z))) (λ z. refl) e
 
-pub load-done : (file : List ℕ) → done ≡ number_of (set_up_outcome (get_or file 0 0))
-    → (0 < length file) × (settings_from (settings_set_up (get_or file 0 0)) (drop 1 file) ≡ settings_outcome file)
+-- and the messages behind one that is not
+pub load-done : (file : List ℕ) (before : HostState) → number_of (set_up_outcome (get_or file 0 0)) ≡ done
+    → settings_from (placed itself (set_up_outcome (get_or file 0 0)) before).settings (drop 1 file) ≡ settings_outcome file
 unfolding settings_outcome set_up_outcome
-load-done [] e = absurd (omega (arith, e))
-load-done (q ∷ xs) e =
+load-done [] before e = absurd (omega (arith, e))
+load-done (q ∷ xs) before e =
     let P : Outcome HostState → Type 0 =
-    λ (x : Outcome HostState). done ≡ number_of x → settings_from (placed itself x (interface_at_setup 1)).settings xs ≡ loaded xs x in
-    (omega arith, by-setup P q (λ _ _ z. refl) (λ z. absurd (omega (arith, z))) e)
+    λ (x : Outcome HostState). number_of x ≡ done → settings_from (placed itself x before).settings xs ≡ loaded xs x in
+    by-setup P q (λ _ _ z. refl) (λ z. absurd (omega (arith, z))) e
+
+-- the same where the count and the messages were taken from the file, and the interface was set up
+pub set-up-done : (file messages : List ℕ) (count : ℕ) (before after : HostState) → count ≡ get_or file 0 0 → messages ≡ drop 1 file
+    → number_of (set_up_outcome count) ≡ done → after ≡ placed itself (set_up_outcome count) before
+    → Good after.settings × (settings_from after.settings messages ≡ settings_outcome file)
+set-up-done file messages count before after e behind is left = (
+  rw left (set-up-good count before is),
+  rw (left, behind, e) (load-done file before (rw e at is)),
+)

@@ -1,15 +1,15 @@
 -- The settings file: one octet for the queue count, then request messages, each carried out as the host does.
-use Rattle.std.specs.Prelude.{◌∷◌, ◌&&◌}
+use Rattle.std.specs.Prelude.{◌∷◌, ◌&&◌, Result, Ok, Err}
 use Rattle.octets.specs.Prelude.{List, [], Bool, true, cond, ℕ, length, eqb}
 use Rattle.octets.specs.Outcome.{Outcome, value, refused, and_then}
 use Rattle.messages.specs.Wire.{success}
 use Rattle.messages.specs.Requests.{ack_status, carried_message}
-use Rattle.messages.specs.Settings.{Settings, settings_of}
-use Rattle.interface.specs.States.{HostState, queues_wrong, set_up_outcome}
+use Rattle.messages.specs.Settings.{Settings}
+use Rattle.interface.specs.States.{HostState, queues_wrong, settings_in, set_up_outcome}
+use Rattle.interface.specs.declared.Interface.{Interface}
 use Rattle.backend.specs.Streams.{messages_in, rest_of, settings_after}
-use Rattle.settings_file.specs.declared.Answer.{Answer}
-use Rattle.settings_file.specs.declared.Answer.TheVariants.{Done, Refused}
-use Rattle.settings_file.specs.declared.Held.{Held}
+use Rattle.settings_file.specs.declared.SettingsRefusal.{SettingsRefusal}
+use Rattle.settings_file.specs.declared.SettingsRefusal.TheVariants.{QueueCount, Message}
 
 -- refusal 22: a settings message cut short or acked with a nonzero status
 abbrev pub settings_wrong : ℕ
@@ -30,11 +30,11 @@ unfoldable pub settings_outcome : List ℕ → Outcome Settings
 settings_outcome [] = refused queues_wrong
 settings_outcome (queues ∷ xs) = and_then (set_up_outcome queues) (λ (i : HostState). settings_from i.settings xs)
 
--- the number and value that an answer stands for: in a refusal, what is held beside it is no part of it
-abbrev pub outcome_of : {A : Type 0} → Answer → A → Outcome A
-outcome_of Done x = value x
-outcome_of (Refused n) x = refused n
+-- the number that each refusal stands for, and what an answer says
+abbrev pub settings_refusal_number : SettingsRefusal → ℕ
+settings_refusal_number QueueCount = queues_wrong
+settings_refusal_number Message = settings_wrong
 
--- the settings that are held while a file is read
-abbrev pub settings_held : Held → Settings
-settings_held h = settings_of h.queues h.flags h.key h.entries h.count
+abbrev pub settings_outcome_of : Result Interface SettingsRefusal → Outcome Settings
+settings_outcome_of (Ok i) = value (settings_in i)
+settings_outcome_of (Err e) = refused (settings_refusal_number e)

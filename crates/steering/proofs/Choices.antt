@@ -2,10 +2,10 @@
 use Rattle.octets.specs.Prelude.{◌≡◌, refl, sym, ap, ◌∙◌, List, Bool, true, false, cond, ℕ, zero, suc, ◌+◌, ◌-◌, ◌≤◌, arith, length, take, drop, lit≤}
 use lib.Seq.{take-take}
 use Rattle.toeplitz.specs.Hash.{published_hash}
-use Rattle.toeplitz.specs.TwoWay.{last_type, input_size}
+use Rattle.toeplitz.specs.TwoWay.{last_type, type_number, input_size}
 use Rattle.packet.specs.Packets.{PacketType, no_type, hash_type, kind_of, input_start, input_of, none, typed, look_at, look_of}
-use Rattle.packet.specs.declared.Found.{Found}
-use Rattle.packet.specs.declared.Found.TheVariants.{NotIp, Ip}
+use Rattle.packet.specs.declared.IpPacket.{IpPacket}
+use Rattle.std.specs.Prelude.{Option, None, Some}
 use Rattle.packet.proofs.Theorems.{input-inside, input-length}
 use Rattle.steering.specs.Steering.{is_set, plain_type, type_used, Choice, unhashed, hashed_to, chosen, steered}
 use Rattle.steering.specs.Inner.{plain_size, steered_ip}
@@ -41,7 +41,7 @@ none-kind no_type e = refl
 none-kind (hash_type t) e = let z : ◌≡◌ {A = ℕ} 0 1 = cc in absurd (omega arith)
 
 -- and goes to queue 0
-pub steered-not-ip : (flags : ℕ) (key table p : List ℕ) (r : Found) → look_of r ≡ look_at (kind_of p) → r ≡ NotIp
+pub steered-not-ip : (flags : ℕ) (key table p : List ℕ) (r : Option IpPacket) → look_of r ≡ look_at (kind_of p) → r ≡ None
     → unhashed 0 ≡ steered flags key table p
 unfolding type_used chosen
 steered-not-ip flags key table p r e q = rw (none-kind (kind_of p) (sym (ap look_of q) ∙ e)) refl
@@ -63,10 +63,10 @@ typed-kind no_type t addresses ports end e = let z : ◌≡◌ {A = ℕ} 0 1 = c
 typed-kind (hash_type u) t addresses ports end e = let same : t ≡ u = cc in rw same (refl, cc, cc, cc)
 
 -- and they stand inside the packet
-pub places : (p : List ℕ) (r : Found) (t addresses ports end : ℕ) → look_of r ≡ look_at (kind_of p) → r ≡ Ip t addresses ports end
-    → Places p t addresses ports end
-places p r t addresses ports end e q =
-    let x = typed-kind (kind_of p) t addresses ports end (sym (ap look_of q) ∙ e) in
+pub places : (p : List ℕ) (f : IpPacket) → look_of (Some f) ≡ look_at (kind_of p) → Places p (type_number f.hash_type) f.addresses f.ports f.end
+places p f e =
+    let t = type_number f.hash_type in
+    let x = typed-kind (kind_of p) t f.addresses f.ports f.end e in
     let y = input-inside p t x.0 in
     record { kind = x.0; known = y.0; begins = x.1; parted = x.2; ends = x.3; inside = rw x.3 y.1 }
 

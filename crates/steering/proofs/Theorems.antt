@@ -5,6 +5,8 @@ use Rattle.packet.specs.Packets.{PacketType, no_type, hash_type, is_ipv4, is_fra
 use Rattle.packet.proofs.Fragments.{fragment-plain, addresses-input}
 use Rattle.steering.specs.Steering.{is_set, plain_type, type_used, queue_of, Choice, unhashed, hashed, queue_in, hashed_to}
 use Rattle.steering.specs.Steering.{chosen, steered, choice_of}
+use Rattle.toeplitz.specs.declared.HashType.{HashType}
+use Rattle.toeplitz.proofs.Types.{type-named, type-named-back}
 use Rattle.steering.specs.declared.Steered.{Steered}
 use Rattle.steering.specs.declared.Steered.TheVariants.{NoType, Hashed}
 
@@ -63,12 +65,12 @@ fragments-together flags key table p q four fragment four' fragment' source dest
 -- the reading of an answer keeps answers apart, so the contract leaves no choice
 answer-of : Choice → Steered
 answer-of (unhashed queue) = NoType queue
-answer-of (hashed t hash queue) = Hashed t hash queue
+answer-of (hashed t hash queue) = Hashed (type-named t) hash queue
 
 answer_back : (r : Steered) → answer-of (choice_of r) ≡ r
 unfolding answer-of
 answer_back (NoType queue) = refl
-answer_back (Hashed t hash queue) = refl
+answer_back (Hashed t hash queue) = ap (λ (u : HashType). Hashed u hash queue) (type-named-back t)
 
 pub steered-determined : (r s : Steered) → choice_of r ≡ choice_of s → r ≡ s
 steered-determined r s e = sym (answer_back r) ∙ ap answer-of e ∙ answer_back s

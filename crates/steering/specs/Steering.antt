@@ -2,6 +2,7 @@
 use Rattle.std.specs.Prelude.{◌≡◌, ◌-◌, ◌/◌, ◌%◌, ◌^◌, ◌≤◌}
 use Rattle.octets.specs.Prelude.{List, Bool, cond, ℕ, length, get_or, eqb}
 use Rattle.toeplitz.specs.Hash.{key_length, published_hash}
+use Rattle.toeplitz.specs.TwoWay.{type_number}
 use Rattle.packet.specs.Packets.{PacketType, no_type, hash_type, kind_of, input_of}
 use Rattle.steering.specs.declared.Steered.{Steered}
 use Rattle.steering.specs.declared.Steered.TheVariants.{NoType, Hashed}
@@ -54,4 +55,4 @@ pub record Usable (key table : List ℕ) : Type 0 where
 -- the values that each case of the enum stands for
 abbrev pub choice_of : Steered → Choice
 choice_of (NoType queue) = unhashed queue
-choice_of (Hashed t hash queue) = hashed t hash queue
+choice_of (Hashed t hash queue) = hashed (type_number t) hash queue

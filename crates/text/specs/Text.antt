@@ -1,6 +1,6 @@
 -- A text that grows: what it holds, and what it is to add to it.
-use Rattle.std.specs.Prelude.{◌≡◌, ◌++◌, ◌+◌, ◌≤◌}
-use Rattle.octets.specs.Prelude.{List, ℕ, length, take}
+use Rattle.std.specs.Prelude.{◌≡◌, ◌++◌}
+use Rattle.octets.specs.Prelude.{List, ℕ}
 use Rattle.text.specs.declared.Text.{Text}
 
 -- the most octets that a text holds: 64 lines of a report's queues, at most 69 each, and two lines more
@@ -15,16 +15,10 @@ longest_line = 30
 abbrev pub longest_type_line : ℕ
 longest_type_line = 39
 
--- the octets of a text: what stands behind them in the array is free
-abbrev pub text_of : Text → List ℕ
-text_of t = take t.length t.octets
-
 -- r is t with xs behind it
-pub record Adds (t : Text) (xs : List ℕ) (r : Text) : Type 0 where
-  pub longer : r.length ≡ t.length + length xs
-  pub text : text_of r ≡ text_of t ++ xs
+abbrev pub Adds : (t : Text) (xs : List ℕ) (r : Text) → Type 0
+Adds t xs r = r ≡ t ++ xs
 
--- a text of xs, all of it in the array
-pub record Prints (r : Text) (xs : List ℕ) : Type 0 where
-  pub fits : r.length ≤ length r.octets
-  pub text : text_of r ≡ xs
+-- a text of xs
+abbrev pub Prints : (r : Text) (xs : List ℕ) → Type 0
+Prints r xs = r ≡ xs

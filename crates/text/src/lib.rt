@@ -1,15 +1,15 @@
-// A text that a program prints, built by value piece by piece, so that a function's promise is one equation: the text that it
-// returns is the one that it took with certain octets behind it.
+// A text that a program prints, put together piece by piece. What is put behind it is the promise of each piece, so that of a
+// whole text is one equation.
 #![tactic(auto)]
 
-ghost use Rattle.std.specs.Prelude.{◌≡◌, ◌≤◌};
-ghost use Rattle.octets.specs.Prelude.{length};
+ghost use Rattle.octets.specs.Prelude.{[]};
+ghost use Rattle.std.specs.Prelude.{◌≡◌};
+
+use arrayvec::ArrayVec;
+use std::marker::Model;
 
 mod line;
 mod piece;
-
-pub use line::{with_number, with_refusal};
-pub use piece::{with_decimal, with_hex, with_octets};
 
 // The most octets that a text holds: the lines of a report on 64 queues with room to spare.
 pub const CAPACITY: usize = 4608;
@@ -17,27 +17,30 @@ pub const CAPACITY: usize = 4608;
 // Where printed text goes.
 const STDOUT: i32 = 1;
 
-// The octets of a text are the first `length` ones.
 #[derive(Drop)]
 pub struct Text {
-    pub octets: [u8; CAPACITY],
-    pub length: usize,
+    octets: ArrayVec<u8, CAPACITY>,
 }
 
-// Writes a text that was made here to standard output.
-pub fn print(t: Text) -> bool
-    requires { t.length ≤ length t.octets }
-{
-    let n = t.length;
-    let octets = t.octets;
-    io::write_all(STDOUT, &octets[..n])
+impl Model for Text {
+    ghost use Rattle.octets.specs.Prelude.{List, ℕ};
+
+    ghost Value = { List ℕ };
+
+    ghost view = { λ t. t.octets.items };
 }
 
-pub fn empty() -> Text
-    ensures { result.length ≡ 0 }
-{
-    Text {
-        octets: [0u8; CAPACITY],
-        length: 0,
+impl Text {
+    pub fn new() -> Self
+        ensures { result ≡ [] }
+    {
+        Text {
+            octets: ArrayVec::new(),
+        }
+    }
+
+    // Writes the text to standard output.
+    pub fn print(&self) -> bool {
+        io::write_all(STDOUT, self.octets.as_slice())
     }
 }

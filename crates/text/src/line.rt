@@ -5,21 +5,25 @@ ghost use Rattle.text.specs.Text.{capacity, longest_line, Adds};
 ghost use Rattle.text.specs.Lines.{number_line, refusal_line};
 
 use crate::Text;
-use crate::piece::{with_decimal, with_octets};
 
-pub fn with_refusal(t: Text, number: u32) -> Text
-    requires { t.length + longest_line ≤ capacity }
-    ensures adds { Adds t (refusal_line number) result }
-    ensures length_bound { result.length ≤ t.length + longest_line }
-{
-    with_number(t, b"refused ", number as u64)
-}
+impl Text {
+    // A refusal by its number.
+    pub fn push_refusal_line(&mut self, number: u32)
+        requires { length self.old + longest_line ≤ capacity }
+        ensures adds { Adds self.old (refusal_line number) self.new }
+        ensures length_bound { length self.new ≤ length self.old + longest_line }
+    {
+        self.push_number_line(b"refused ", u64::from(number));
+    }
 
-// A word, a number and the line's end.
-pub fn with_number(t: Text, word: &[u8], number: u64) -> Text
-    requires { (length word.now ≤ 9) × (t.length + longest_line ≤ capacity) }
-    ensures adds { Adds t (number_line word.now number) result }
-    ensures length_bound { result.length ≤ t.length + longest_line }
-{
-    with_octets(with_decimal(with_octets(t, word), number), b"\n")
+    // A word, a number and the line's end.
+    pub fn push_number_line(&mut self, word: &[u8], number: u64)
+        requires { (length word.now ≤ 9) × (length self.old + longest_line ≤ capacity) }
+        ensures adds { Adds self.old (number_line word.now number) self.new }
+        ensures length_bound { length self.new ≤ length self.old + longest_line }
+    {
+        self.push_octets(word);
+        self.push_decimal(number);
+        self.push_octets(b"\n");
+    }
 }

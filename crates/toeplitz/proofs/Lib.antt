@@ -10,3 +10,4 @@ pub mod Period
 pub mod Reverses
 pub mod Outcomes
 pub mod Theorems
+pub mod Types

@@ -14,7 +14,7 @@ use Rattle.toeplitz.specs.TwoWay.{Verdict, agree, differ_at, verdict, two_way_ou
 use Rattle.toeplitz.specs.declared.HashRefusal.{HashRefusal}
 use Rattle.toeplitz.specs.declared.HashRefusal.TheVariants.{KeyLength, InputLength}
 use Rattle.toeplitz.specs.declared.TwoWayRefusal.{TwoWayRefusal}
-use Rattle.toeplitz.specs.declared.TwoWayRefusal.TheVariants.{KeyLength as KeyLength₂, HashType}
+use Rattle.toeplitz.specs.declared.TwoWayRefusal.TheVariants.{KeyLength as KeyLength₂, UnknownType}
 use Rattle.std.specs.Prelude.{Option, None, Some, Result, Ok, Err}
 use Rattle.toeplitz.proofs.Linear.{length-xor, get_d-xor, linear-in-input, linear-in-key}
 use Rattle.toeplitz.proofs.Lowest.{differ-exactly}
@@ -111,14 +111,14 @@ hash-by-steps key input o =
 two-way-answer : Outcome Verdict → Result (Option ℕ) TwoWayRefusal
 two-way-answer (value agree) = Ok None
 two-way-answer (value (differ_at b)) = Ok (Some b)
-two-way-answer (refused n) = cond (eqb n key_length_wrong) (Err KeyLength₂) (Err HashType)
+two-way-answer (refused n) = cond (eqb n key_length_wrong) (Err KeyLength₂) (Err UnknownType)
 
 two-way-answer-back : (r : Result (Option ℕ) TwoWayRefusal) → two-way-answer (two_way_outcome_of r) ≡ r
 unfolding two-way-answer
 two-way-answer-back (Ok None) = refl
 two-way-answer-back (Ok (Some b)) = refl
 two-way-answer-back (Err KeyLength₂) = refl
-two-way-answer-back (Err HashType) = refl
+two-way-answer-back (Err UnknownType) = refl
 
 pub two-way-answer-determined : (r s : Result (Option ℕ) TwoWayRefusal) → two_way_outcome_of r ≡ two_way_outcome_of s → r ≡ s
 two-way-answer-determined r s e = sym (two-way-answer-back r) ∙ ap two-way-answer e ∙ two-way-answer-back s

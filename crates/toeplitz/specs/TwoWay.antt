@@ -7,11 +7,25 @@ use Rattle.octets.specs.Outcome.{Outcome, value, refused}
 use Rattle.toeplitz.specs.Refusals.{key_length_wrong, type_unknown}
 use Rattle.toeplitz.specs.Hash.{key_length, published_hash}
 use Rattle.toeplitz.specs.declared.TwoWayRefusal.{TwoWayRefusal}
-use Rattle.toeplitz.specs.declared.TwoWayRefusal.TheVariants.{KeyLength, HashType}
+use Rattle.toeplitz.specs.declared.TwoWayRefusal.TheVariants.{KeyLength, UnknownType}
+use Rattle.toeplitz.specs.declared.HashType.{HashType}
+use Rattle.toeplitz.specs.declared.HashType.TheVariants.{Ipv4, Ipv4Tcp, Ipv6, Ipv6Tcp}
 
 -- the hash types: 0 IPv4, 1 IPv4 TCP, 2 IPv6, 3 IPv6 TCP
 abbrev pub last_type : ℕ
 last_type = 3
+
+-- the number of each type by its name in the code, and the type with a number, of which there is none above 3
+abbrev pub type_number : HashType → ℕ
+type_number Ipv4 = 0
+type_number Ipv4Tcp = 1
+type_number Ipv6 = 2
+type_number Ipv6Tcp = 3
+
+unfoldable pub type_of : ℕ → Result HashType TwoWayRefusal
+type_of n =
+    cond (eqb n 0) (Ok Ipv4)
+    (cond (eqb n 1) (Ok Ipv4Tcp) (cond (eqb n 2) (Ok Ipv6) (cond (eqb n 3) (Ok Ipv6Tcp) (Err UnknownType))))
 
 -- octets of an address in an input of type t: 4 for IPv4, 16 for IPv6
 abbrev pub address_size : ℕ → ℕ
@@ -91,7 +105,7 @@ two_way_outcome key t =
 -- the number that each refusal stands for, and what an answer says: a bit that tells, or none
 abbrev pub two_way_refusal_number : TwoWayRefusal → ℕ
 two_way_refusal_number KeyLength = key_length_wrong
-two_way_refusal_number HashType = type_unknown
+two_way_refusal_number UnknownType = type_unknown
 
 abbrev pub verdict_of : Option ℕ → Verdict
 verdict_of None = agree

@@ -8,4 +8,4 @@ pub returns : goal.returns
 unfolding fragment_field
 returns c =
     let p = c.args.packet.now in
-    ap (λ (field : ℕ). not (eqb (bit_and field 16383) 0)) c.joined-field.ensures ∙ fragment-told p
+    ap (λ (field : ℕ). not (eqb (bit_and field 16383) 0)) c.from_be_bytes-field.ensures ∙ fragment-told p

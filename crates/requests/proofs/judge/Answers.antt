@@ -2,5 +2,5 @@
 use Rattle.requests.proofs.Carrying.{unnamed}
 use Rattle.requests.proofs.judge.Goals as goal
 
-pub returns-in-Err-clause-settings_after : goal.returns-in-Err-clause-settings_after
-returns-in-Err-clause-settings_after c = unnamed _ _ c.in-Err.ensures _ _ _
+pub returns-in_err-try_from-clause-settings_after : goal.returns-in_err-try_from-clause-settings_after
+returns-in_err-try_from-clause-settings_after c = unnamed _ _ _ c.in_err-try_from.ensures c.from_residual.ensures.1 _ _ _

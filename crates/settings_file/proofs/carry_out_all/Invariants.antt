@@ -1,10 +1,15 @@
-use Rattle.octets.specs.Prelude.{◌-◌, length}
-use Rattle.settings_file.specs.Loading.{settings_held}
-use Rattle.settings_file.proofs.Firsts.{Reaches}
+-- The loop of `settings_file::carry_out_all`: what is left goes on from the settings so far.
+use Rattle.octets.specs.Prelude.{◌≡◌, length}
+use Rattle.messages.specs.Settings.{Good}
+use Rattle.interface.specs.States.{settings_in}
+use Rattle.settings_file.specs.Loading.{settings_from}
 use Rattle.settings_file.proofs.carry_out_all.Given as goal
 
-abbrev pub invariant-loop-at : goal.invariant-loop-at
-invariant-loop-at l = Reaches (settings_held l.initial.left) l.file (settings_held l.left) l.at
+abbrev pub invariant-loop-rest : goal.invariant-loop-rest
+invariant-loop-rest l = record {
+  good : Good (settings_in l.i);
+  so : settings_from (settings_in l.initial.i) l.messages ≡ settings_from (settings_in l.i) l.rest;
+}
 
-abbrev pub decreases-loop-at : goal.decreases-loop-at
-decreases-loop-at l = length l.file - l.at
+abbrev pub decreases-loop-rest : goal.decreases-loop-rest
+decreases-loop-rest l = length l.rest

@@ -1,64 +1,33 @@
 -- `settings_file::load_settings` meets its contract: the queue count first, then the messages behind it.
-use Rattle.octets.specs.Prelude.{◌≡◌, sym, ap, ◌∙◌, List, ℕ, ◌-◌, ◌<◌, arith, length, get_or, drop, take, length-drop, take_all}
-use Rattle.octets.specs.Outcome.{number_of, done, refused}
-use Rattle.messages.specs.Settings.{Settings, Good}
-use Rattle.interface.specs.States.{set_up_outcome, queues_wrong}
-use Rattle.settings_file.specs.Loading.{settings_from, settings_outcome}
-use Rattle.settings_file.specs.Inner.{settings_set_up}
-use Rattle.settings_file.proofs.Loads.{set-up-good, set-up-told, load-refused, load-done}
+use Rattle.octets.specs.Prelude.{◌≡◌, sym, ◌∙◌, get_or, drop, arith}
+use Rattle.std.proofs.lemmas.Grind.{common_steps}
+use Rattle.std.proofs.lemmas.Result.{err_from_is_err_and}
+use Rattle.settings_file.proofs.Loads.{load-refused, set-up-done}
 use Rattle.settings_file.proofs.load_settings.Goals as goal
 
--- where the queue count was judged
-module _ (file : List ℕ) (count answer : ℕ) (s : Settings) (counted : count ≡ get_or file 0 0) (told : answer ≡ number_of (set_up_outcome count))
-    (left : s ≡ settings_set_up count)
-  where
-    answered : answer ≡ number_of (set_up_outcome (get_or file 0 0))
-    answered = told ∙ ap (λ (q : ℕ). number_of (set_up_outcome q)) counted
-
-    settings : s ≡ settings_set_up (get_or file 0 0)
-    settings = left ∙ ap settings_set_up counted
-
-    good : Good s
-    good = rw settings (set-up-good (get_or file 0 0))
-
-    -- and refused
-    none : (answer ≡ done → ⊥) → refused queues_wrong ≡ settings_outcome file
-    none h = load-refused file (set-up-told _ (λ e. h (answered ∙ e)))
-
-    -- and passed
-    passed : answer ≡ done → (0 < length file) × (settings_from s (drop 1 file) ≡ settings_outcome file)
-    passed h = rw settings (load-done file (sym h ∙ answered))
-
-    -- whose messages are carried out
-    whole : answer ≡ done → settings_from s (take (length file - 1) (drop 1 file)) ≡ settings_outcome file
-    whole h =
-        let inside = (passed h).0 in
-        ap (settings_from s) (take_all (length file - 1) (drop 1 file) (omega (arith, length-drop 1 file))) ∙ (passed h).1
-
-pub returns-then-answer-ne-SET_UP : goal.returns-then-answer-ne-SET_UP
-returns-then-answer-ne-SET_UP c =
-    let told = c.set_up-set_up.ensures in
-    let counted = c.queue_count.ensures in
-    (none c.args.file.now _ _ _ counted told.0 told.1 c.if-answer-ne-SET_UP.true, good c.args.file.now _ _ _ counted told.0 told.1)
-
-pub returns : goal.returns
-returns c =
-    let told = c.set_up-set_up.ensures in (
-      c.carry_out_all.ensures.0 ∙ whole c.args.file.now _ _ _ c.queue_count.ensures told.0 told.1 c.if-answer-ne-SET_UP.false,
-      c.carry_out_all.ensures.1,
-    )
-
-pub slice_bounds-carry_out_all-count : goal.slice_bounds-carry_out_all-count
-slice_bounds-carry_out_all-count c =
-    let told = c.set_up-set_up.ensures in
-    let some = (passed c.args.file.now _ _ _ c.queue_count.ensures told.0 told.1 c.if-answer-ne-SET_UP.false).0 in
-    omega arith
-
-pub slice_bounds-carry_out_all-start : goal.slice_bounds-carry_out_all-start
-slice_bounds-carry_out_all-start c =
-    let told = c.set_up-set_up.ensures in
-    let some = (passed c.args.file.now _ _ _ c.queue_count.ensures told.0 told.1 c.if-answer-ne-SET_UP.false).0 in
-    omega arith
+pub returns-in_err-set_up-clause-settings : goal.returns-in_err-set_up-clause-settings
+returns-in_err-set_up-clause-settings c =
+    let count : c.from.result ≡ get_or c.args.file.now 0 0 = grind (arith, common_steps) in
+    let e = err_from_is_err_and c.from_residual.result c.from_residual.ensures.1 in
+    rw (e.1, e.2) (load-refused c.args.file.now (rw count at c.in_err-set_up.ensures.0))
 
 pub carry_out_all-requires : goal.carry_out_all-requires
-carry_out_all-requires c = let told = c.set_up-set_up.ensures in good c.args.file.now _ _ _ c.queue_count.ensures told.0 told.1
+carry_out_all-requires c =
+    let count : c.from.result ≡ get_or c.args.file.now 0 0 = grind (arith, common_steps) in
+    let behind : c.unwrap_or.result.1.now ≡ drop 1 c.args.file.now = grind (arith, common_steps) in
+    (set-up-done c.args.file.now _ _ _ _ count behind (sym c.in_ok-set_up.ensures.0) c.set_up.ensures.1).0
+
+pub returns-in_err-carry_out_all-clause-settings : goal.returns-in_err-carry_out_all-clause-settings
+returns-in_err-carry_out_all-clause-settings c =
+    let count : c.from.result ≡ get_or c.args.file.now 0 0 = grind (arith, common_steps) in
+    let behind : c.unwrap_or.result.1.now ≡ drop 1 c.args.file.now = grind (arith, common_steps) in
+    let so = (set-up-done c.args.file.now _ _ _ _ count behind (sym c.in_ok-set_up.ensures.0) c.set_up.ensures.1).1 in
+    let e = err_from_is_err_and c.from_residual-in_err-carry_out_all.result c.from_residual-in_err-carry_out_all.ensures.1 in
+    rw (e.1, e.2) (c.in_err-carry_out_all.ensures.settings ∙ so)
+
+pub returns-clause-settings : goal.returns-clause-settings
+returns-clause-settings c =
+    let count : c.from.result ≡ get_or c.args.file.now 0 0 = grind (arith, common_steps) in
+    let behind : c.unwrap_or.result.1.now ≡ drop 1 c.args.file.now = grind (arith, common_steps) in
+    let so = (set-up-done c.args.file.now _ _ _ _ count behind (sym c.in_ok-set_up.ensures.0) c.set_up.ensures.1).1 in
+    c.in_ok-carry_out_all.ensures.settings ∙ so

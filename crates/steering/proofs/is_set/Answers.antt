@@ -5,4 +5,4 @@ use Rattle.steering.proofs.is_set.Goals as goal
 
 pub returns : goal.returns
 unfolding is_set
-returns c = refl
+returns c = rw c.from.ensures refl

@@ -1,0 +1,2 @@
+-- The laws of `answer_lines`.
+pub mod Keys

@@ -1,2 +1,0 @@
--- The definitions that the contracts of `report_vectors` cite.
-pub mod Keeping
