@@ -22,7 +22,8 @@ impl Interface {
         if queues > MAX_QUEUES {
             return Err(QueuesWrong);
         }
-        // No flags, a mapping of one entry, queue 0, and all else 0.
+        // No flags, a mapping of one entry, queue 0, and all else 0. Each field is written: with a derived `Default` the proof did
+        // not close.
         *self = Interface {
             queues: queues as u64,
             flags: 0,
