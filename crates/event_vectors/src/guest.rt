@@ -1,7 +1,5 @@
 // What the guest does to the page between the calls.
-ghost use Rattle.std.specs.Prelude.{◌≡◌};
-ghost use Rattle.octets.specs.Prelude.{length};
-
+use case_tools::BUFFER;
 use cases::print_cut;
 use page::{REQ_PROD, RSP_CONS};
 
@@ -15,9 +13,7 @@ const SEND: u8 = 5;
 
 const TAKE: u8 = 6;
 
-pub(crate) fn act(page: &mut [u8], kind: u8, body: &[u8])
-    requires { length page.old ≡ 4160 }
-{
+pub(crate) fn act(page: &mut [u8; BUFFER], kind: u8, body: &[u8]) {
     match kind {
         PATCH => case_tools::patch(page, body),
         FILL => case_tools::fill(page, body),
@@ -28,10 +24,8 @@ pub(crate) fn act(page: &mut [u8], kind: u8, body: &[u8])
 }
 
 // Puts octets into the request area behind those sent before.
-fn send(page: &mut [u8], body: &[u8])
-    requires { length page.old ≡ 4160 }
-{
-    let mut count = octets::read_u32(&page[..], REQ_PROD);
+fn send(page: &mut [u8; BUFFER], body: &[u8]) {
+    let mut count = octets::read_u32(page, REQ_PROD);
     for octet in body {
         let place = (count % page::AREA) as usize;
         page[page::REQUESTS + place] = *octet;
@@ -41,22 +35,18 @@ fn send(page: &mut [u8], body: &[u8])
 }
 
 // So many more octets of acks have been read.
-fn take(page: &mut [u8], body: &[u8])
-    requires { length page.old ≡ 4160 }
-{
+fn take(page: &mut [u8; BUFFER], body: &[u8]) {
     if body.len() < 4 {
         print_cut();
         return;
     }
-    let taken = octets::read_u32(&page[..], RSP_CONS);
+    let taken = octets::read_u32(page, RSP_CONS);
     let more = octets::read_u32(body, 0);
     octets::write_u32(page, RSP_CONS, taken.wrapping_add(more));
 }
 
 // Counts by which nothing stands unread in either area. The interface then takes its own two from the page.
-pub(crate) fn empty_areas(page: &mut [u8], body: &[u8])
-    requires { length page.old ≡ 4160 }
-{
+pub(crate) fn empty_areas(page: &mut [u8; BUFFER], body: &[u8]) {
     if body.len() < 8 {
         print_cut();
         return;

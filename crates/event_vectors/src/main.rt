@@ -2,16 +2,15 @@
 // interface and one page, one after the other.
 #![tactic(auto)]
 
-ghost use Rattle.std.specs.Prelude.{◌≡◌};
-ghost use Rattle.octets.specs.Prelude.{length};
 ghost use Rattle.interface.specs.States.{Good, state_of};
 
 mod guest;
 
+use case_tools::BUFFER;
 use cases::Cases;
 use interface::Interface;
 
-// The kinds that the interface has a part in, of which the last is the guest's too; the others are the guest's.
+// The kinds, which are octets of the case files, that the interface has a part in, of which the last is the guest's too; the others are the guest's.
 const SET_UP: u8 = 0;
 
 const EVENT: u8 = 3;
@@ -22,7 +21,7 @@ const COUNTS: u8 = 7;
 
 fn main(rt: HostRuntime) {
     let mut buffer = io::large_buffer();
-    let mut page = [0u8; case_tools::BUFFER];
+    let mut page = [0u8; BUFFER];
     let mut i = host_cases::first_interface();
     for part in 0..cases::PARTS {
         // A file that is not there has no case.
@@ -32,8 +31,8 @@ fn main(rt: HostRuntime) {
 }
 
 // Runs the cases of one file on the interface and the page that those before it left.
-fn run(i: &mut Interface, page: &mut [u8], cases: &[u8])
-    requires { Good (state_of i.old) × (length page.old ≡ 4160) }
+fn run(i: &mut Interface, page: &mut [u8; BUFFER], cases: &[u8])
+    requires { Good (state_of i.old) }
     ensures { Good (state_of i.new) }
 {
     for case in (Cases { rest: cases }) {
@@ -42,8 +41,8 @@ fn run(i: &mut Interface, page: &mut [u8], cases: &[u8])
 }
 
 // Answers one case.
-fn answer(i: &mut Interface, page: &mut [u8], kind: u8, body: &[u8])
-    requires { Good (state_of i.old) × (length page.old ≡ 4160) }
+fn answer(i: &mut Interface, page: &mut [u8; BUFFER], kind: u8, body: &[u8])
+    requires { Good (state_of i.old) }
     ensures { Good (state_of i.new) }
 {
     match kind {
@@ -52,7 +51,7 @@ fn answer(i: &mut Interface, page: &mut [u8], kind: u8, body: &[u8])
         PACKET => packet(i, body),
         COUNTS => {
             guest::empty_areas(page, body);
-            host_cases::recount(i, &page[..]);
+            host_cases::recount(i, page);
         }
         _ => guest::act(page, kind, body),
     }

@@ -5,7 +5,7 @@ ghost use Rattle.std.specs.Prelude.{◌≡◌, ◌≤◌};
 ghost use Rattle.octets.specs.Prelude.{length};
 ghost use Rattle.guest_steps.specs.Guest.{Good, state_of};
 
-use case_tools::print_number;
+use case_tools::{BUFFER, print_number};
 use guest_messages::AckRead;
 use guest_steps::{Ask, Guest, MAX_ACK_PAYLOAD, MAX_REQUEST, Progress, Refusal};
 use messages::HEADER;
@@ -131,8 +131,8 @@ fn print_left(guest: &Guest, page: &[u8]) {
 }
 
 // Takes the guest's own counts from the page, so that a case can begin near their end.
-pub fn recount(guest: &mut Guest, page: &[u8])
-    requires { Good (state_of guest.old) × (length page.now ≡ 4160) }
+pub fn recount(guest: &mut Guest, page: &[u8; BUFFER])
+    requires { Good (state_of guest.old) }
     ensures { Good (state_of guest.new) }
 {
     guest.outgoing.prod = octets::read_u32(page, page::REQ_PROD) as u64;

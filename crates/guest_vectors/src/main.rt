@@ -2,18 +2,16 @@
 // guest, one interface of the host and one page, one after the other.
 #![tactic(auto)]
 
-ghost use Rattle.std.specs.Prelude.{◌≡◌};
-ghost use Rattle.octets.specs.Prelude.{length};
 ghost use Rattle.interface.specs.States.{Good, state_of};
 ghost use Rattle.guest_steps.specs.Guest.{Good as GoodGuest, state_of as guest_of};
 
-use case_tools::patch;
+use case_tools::{BUFFER, patch};
 use cases::Cases;
 use guest_cases::new_guest;
 use guest_steps::Guest;
 use interface::Interface;
 
-// The kinds: a new guest, and behind the guest's calls other counts in the page, which both ends take their own from, the
+// The kinds, which are octets of the case files: a new guest, and behind the guest's calls other counts in the page, which both ends take their own from, the
 // host's two calls, and octets put into the buffer.
 const GUEST_SET_UP: u8 = 0;
 
@@ -29,7 +27,7 @@ const FILL: u8 = 10;
 
 fn main(rt: HostRuntime) {
     let mut buffer = io::large_buffer();
-    let mut page = [0u8; case_tools::BUFFER];
+    let mut page = [0u8; BUFFER];
     let mut guest = new_guest();
     let mut interface = host_cases::first_interface();
     for part in 0..cases::PARTS {
@@ -40,8 +38,8 @@ fn main(rt: HostRuntime) {
 }
 
 // Runs the cases of one file on the ends and the page that those before it left.
-fn run(guest: &mut Guest, interface: &mut Interface, page: &mut [u8], cases: &[u8])
-    requires { GoodGuest (guest_of guest.old) × Good (state_of interface.old) × (length page.old ≡ 4160) }
+fn run(guest: &mut Guest, interface: &mut Interface, page: &mut [u8; BUFFER], cases: &[u8])
+    requires { GoodGuest (guest_of guest.old) × Good (state_of interface.old) }
     ensures { GoodGuest (guest_of guest.new) × Good (state_of interface.new) }
 {
     for case in (Cases { rest: cases }) {
@@ -51,8 +49,8 @@ fn run(guest: &mut Guest, interface: &mut Interface, page: &mut [u8], cases: &[u
 }
 
 // The guest's part in a case.
-fn answer_guest(guest: &mut Guest, page: &mut [u8], kind: u8, body: &[u8])
-    requires { GoodGuest (guest_of guest.old) × (length page.old ≡ 4160) }
+fn answer_guest(guest: &mut Guest, page: &mut [u8; BUFFER], kind: u8, body: &[u8])
+    requires { GoodGuest (guest_of guest.old) }
     ensures { GoodGuest (guest_of guest.new) }
 {
     match kind {
@@ -65,7 +63,7 @@ fn answer_guest(guest: &mut Guest, page: &mut [u8], kind: u8, body: &[u8])
         ),
         COUNTS => {
             patch(page, body);
-            guest_cases::recount(guest, &page[..]);
+            guest_cases::recount(guest, page);
         }
         PATCH => patch(page, body),
         FILL => case_tools::fill(page, body),
@@ -74,14 +72,14 @@ fn answer_guest(guest: &mut Guest, page: &mut [u8], kind: u8, body: &[u8])
 }
 
 // The host's part in a case, which comes after the guest's.
-fn answer_host(interface: &mut Interface, page: &mut [u8], kind: u8, body: &[u8])
-    requires { Good (state_of interface.old) × (length page.old ≡ 4160) }
+fn answer_host(interface: &mut Interface, page: &mut [u8; BUFFER], kind: u8, body: &[u8])
+    requires { Good (state_of interface.old) }
     ensures { Good (state_of interface.new) }
 {
     match kind {
         HOST_SET_UP => host_cases::set_up(interface, body),
         HOST_EVENT => host_cases::event(interface, page, body),
-        COUNTS => host_cases::recount(interface, &page[..]),
+        COUNTS => host_cases::recount(interface, page),
         _ => {}
     }
 }

@@ -4,7 +4,7 @@
 
 use cases::{Cases, print_cut};
 
-// The kinds: a hash call on a key and an input, a two-way call on a key and a hash type of one octet, and
+// The kinds, which are octets of the case files: a hash call on a key and an input, a two-way call on a key and a hash type of one octet, and
 // what the two programs print for the second part.
 const HASH: u8 = 0;
 

@@ -1,11 +1,9 @@
 // The calls of the host's interface that more than one test program makes, each with the line that it prints.
 #![tactic(auto)]
 
-ghost use Rattle.std.specs.Prelude.{◌≡◌};
-ghost use Rattle.octets.specs.Prelude.{length};
 ghost use Rattle.interface.specs.States.{Good, state_of};
 
-use case_tools::{digest, print_form, print_number, print_word};
+use case_tools::{BUFFER, digest, print_form, print_number, print_word};
 use interface::Interface;
 use ring::{Receiving, Sending};
 
@@ -77,8 +75,8 @@ fn print_left(i: &Interface, page: &[u8]) {
 }
 
 // Takes the interface's own counts from the page, so that a case can begin near their end.
-pub fn recount(i: &mut Interface, page: &[u8])
-    requires { Good (state_of i.old) × (length page.now ≡ 4160) }
+pub fn recount(i: &mut Interface, page: &[u8; BUFFER])
+    requires { Good (state_of i.old) }
     ensures { Good (state_of i.new) }
 {
     i.incoming.cons = octets::read_u32(page, page::REQ_CONS) as u64;

@@ -11,7 +11,7 @@ use cases::{Cases, print_cut};
 use guest_messages::WriteRefusal;
 use interface::Interface;
 
-// The kinds: a new interface with a queue count, a request carried out, the writer's four calls, and an ack read.
+// The kinds, which are octets of the case files: a new interface with a queue count, a request carried out, the writer's four calls, and an ack read.
 const SET_UP: u8 = 0;
 
 const REQUEST: u8 = 1;

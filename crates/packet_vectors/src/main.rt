@@ -7,7 +7,7 @@ use cases::{Cases, Kept};
 use packet::IpPacket;
 use toeplitz::HashType;
 
-// The kinds: settings for the packets behind them, and a packet.
+// The kinds, which are octets of the case files: settings for the packets behind them, and a packet.
 const SETTINGS: u8 = 0;
 
 const PACKET: u8 = 1;

@@ -4,7 +4,7 @@
 
 use cases::{Case, Cases, Kept, print_cut};
 
-// The kinds: a settings file, a capture with its report, every cut of the capture, every cut of the settings, and
+// The kinds, which are octets of the case files: a settings file, a capture with its report, every cut of the capture, every cut of the settings, and
 // both with zeros behind them.
 const SETTINGS: u8 = 0;
 

@@ -1,8 +1,7 @@
 -- Every case leaves both ends good.
-use Rattle.octets.specs.Prelude.{◌≡◌, length}
 use Rattle.guest_steps.specs.Guest.{Good as GoodGuest, state_of as guest_of}
 use Rattle.interface.specs.States.{Good, state_of}
 use Rattle.guest_vectors.proofs.run.Given as goal
 
 abbrev pub invariant-loop-case : goal.invariant-loop-case
-invariant-loop-case l = (length l.page ≡ 4160) × GoodGuest (guest_of l.guest) × Good (state_of l.interface)
+invariant-loop-case l = GoodGuest (guest_of l.guest) × Good (state_of l.interface)
