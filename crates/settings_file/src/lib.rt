@@ -105,10 +105,9 @@ fn carry_out_first<'a>(i: &mut Interface, octets: &'a [u8]) -> Result<&'a [u8], 
         return Err(SettingsRefusal::Message);
     };
     let size = octets::read_u32(header, SIZE_AT) as usize;
-    if rest.len() < size {
+    let Some((payload, behind)) = rest.split_at_checked(size) else {
         return Err(SettingsRefusal::Message);
-    }
-    let (payload, behind) = rest.split_at(size);
+    };
     i.header = *header;
     keep(&mut i.payload, payload);
     requests::carry_out(i);

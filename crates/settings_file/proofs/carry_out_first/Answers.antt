@@ -10,18 +10,19 @@ returns-in_default-clause-wrong c =
     let xs = c.args.octets.now in
     from_cut _ xs c.requires.1 (lt-leb (message_length xs) (length xs) (omega (arith, c.in_default.ensures.cases)))
 
-pub returns-then-rest-size-clause-wrong : goal.returns-then-rest-size-clause-wrong
-returns-then-rest-size-clause-wrong c =
+pub returns-in_default-split_at_checked-clause-wrong : goal.returns-in_default-split_at_checked-clause-wrong
+returns-in_default-split_at_checked-clause-wrong c =
     let parts = c.in-Some.ensures.cases in
-    first-cut c.args.octets.now _ c.in-Some.rest.now _ parts.0 parts.1 c.read_u32-size.ensures _ c.requires.1 c.if-rest-size.true
+    first-cut c.args.octets.now _ c.in-Some.rest.now _ parts.0 parts.1 c.read_u32-size.ensures _ c.requires.1 c.in_default-split_at_checked.ensures.cases
 
 pub returns-then-read_u64-clause-good : goal.returns-then-read_u64-clause-good
 returns-then-read_u64-clause-good c =
     let xs = c.args.octets.now in
     let rest = c.in-Some.rest.now in
     let parts = c.in-Some.ensures.cases in
-    let kept = rw c.split_at.ensures.front at c.keep.ensures in
-    good-left xs _ rest _ parts.0 parts.1 c.read_u32-size.ensures _ (omega (arith, parts.2)) c.if-rest-size.false refl kept
+    let split = c.in-Some-split_at_checked.ensures.cases in
+    let kept = rw split.1 at c.keep.ensures in
+    good-left xs _ rest _ parts.0 parts.1 c.read_u32-size.ensures _ (omega (arith, parts.2)) split.0 refl kept
     c.requires.0 _ c.carry_out.ensures
 
 pub returns-then-read_u64-clause-wrong : goal.returns-then-read_u64-clause-wrong
@@ -29,8 +30,9 @@ returns-then-read_u64-clause-wrong c =
     let xs = c.args.octets.now in
     let rest = c.in-Some.rest.now in
     let parts = c.in-Some.ensures.cases in
-    let kept = rw c.split_at.ensures.front at c.keep.ensures in
-    first-refused xs _ rest _ parts.0 parts.1 c.read_u32-size.ensures _ (omega (arith, parts.2)) c.if-rest-size.false refl kept
+    let split = c.in-Some-split_at_checked.ensures.cases in
+    let kept = rw split.1 at c.keep.ensures in
+    first-refused xs _ rest _ parts.0 parts.1 c.read_u32-size.ensures _ (omega (arith, parts.2)) split.0 refl kept
     c.requires.0 _ c.carry_out.ensures (rw c.read_u64.ensures at c.if-read_u64.true)
 
 pub returns-clause-good : goal.returns-clause-good
@@ -38,8 +40,9 @@ returns-clause-good c =
     let xs = c.args.octets.now in
     let rest = c.in-Some.rest.now in
     let parts = c.in-Some.ensures.cases in
-    let kept = rw c.split_at.ensures.front at c.keep.ensures in
-    good-left xs _ rest _ parts.0 parts.1 c.read_u32-size.ensures _ (omega (arith, parts.2)) c.if-rest-size.false refl kept
+    let split = c.in-Some-split_at_checked.ensures.cases in
+    let kept = rw split.1 at c.keep.ensures in
+    good-left xs _ rest _ parts.0 parts.1 c.read_u32-size.ensures _ (omega (arith, parts.2)) split.0 refl kept
     c.requires.0 _ c.carry_out.ensures
 
 pub returns-clause-next : goal.returns-clause-next
@@ -47,6 +50,7 @@ returns-clause-next c =
     let xs = c.args.octets.now in
     let rest = c.in-Some.rest.now in
     let parts = c.in-Some.ensures.cases in
-    let kept = rw c.split_at.ensures.front at c.keep.ensures in
-    rw c.split_at.ensures.back (first-done xs _ rest _ parts.0 parts.1 c.read_u32-size.ensures _ (omega (arith, parts.2))
-    c.if-rest-size.false refl kept c.requires.0 _ c.carry_out.ensures (rw c.read_u64.ensures at c.if-read_u64.false))
+    let split = c.in-Some-split_at_checked.ensures.cases in
+    let kept = rw split.1 at c.keep.ensures in
+    rw split.2 (first-done xs _ rest _ parts.0 parts.1 c.read_u32-size.ensures _ (omega (arith, parts.2))
+    split.0 refl kept c.requires.0 _ c.carry_out.ensures (rw c.read_u64.ensures at c.if-read_u64.false))
