@@ -1,7 +1,7 @@
 -- What stands in the output buffer after a header and a payload are written into it.
 use Rattle.octets.specs.Prelude.{◌≡◌, refl, sym, ap, ap₂, ◌∙◌, List, [], ◌∷◌, ◌++◌, append_assoc, append-nil, ℕ, ◌+◌, ◌-◌, ◌*◌, ◌≤◌, ◌<◌, zero-add}
 use Rattle.octets.specs.Prelude.{add-one, arith, length, get_or, take, drop, length-append, sets, sets-eq, take_at}
-use Rattle.octets.specs.Prelude.{drop_at, drop-drop, length-take-le, le-leb, lt-leb}
+use Rattle.octets.specs.Prelude.{drop_at, drop-drop, take_all, length-take-le, le-leb, lt-leb}
 use lib.Seq.{take-suc}
 use borrow.Rule.Slice.PartMut.{put_mid}
 use Rattle.octets.specs.Numbers.{octets_of}
@@ -127,3 +127,6 @@ fields_next t n xs b b' k l long e =
     sets-eq o b' at (rw place (omega arith))
     ∙ ap₂ (λ (x y : List ℕ). x ++ o ++ y) (front (h ++ f) b b' at apart both) (rest (h ++ f) b b' at apart both (length o))
     ∙ rw (append_assoc h f o, more, append_assoc h (fields_of (take (k + 1) xs)) (drop (at + length o) b), place) refl
+
+-- what the tactics take for a message of fields
+pub ruleset fields = (fields_short, fields_put, fields_next, fields_none, take_all)

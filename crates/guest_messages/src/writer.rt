@@ -65,7 +65,7 @@ fn is_listed(count: usize) -> bool
 }
 
 // A message whose payload is these numbers in eight octets each, one after the other.
-#[tactic(auto, using(crate::proofs::Buffers::fields_short, crate::proofs::Buffers::fields_put, crate::proofs::Buffers::fields_next, crate::proofs::Buffers::fields_none, std::proofs::Common::take_all))]
+#[tactic(auto, using(crate::proofs::Buffers::fields))]
 fn write_fields(buffer: &mut [u8], kind: u32, numbers: &[u64]) -> Result<usize, WriteRefusal>
     requires { length numbers.now ≤ max_entries }
     ensures { after result buffer.new ≡ written (value (message kind (fields_of numbers.now))) buffer.old }
