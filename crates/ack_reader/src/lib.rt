@@ -12,7 +12,7 @@ use messages::{
     SIZE_AT, SUCCESS,
 };
 
-// Reads the ack to a request of type `kind`.
+// Reads the ack to a request of type `kind`, a number: any can stand in a header, and C tells the reader one.
 #[tactic(auto, using(guest_messages::proofs::Accepts::statuses), unfolding(guest_messages::specs::Reader::read_ack, guest_messages::specs::Reader::is_ack_to))]
 pub fn read_ack(kind: u32, message: &[u8]) -> Result<AckRead, NotAnAck>
     ensures { ack_outcome_of result ≡ read_ack kind message.now }

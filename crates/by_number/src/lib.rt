@@ -1,5 +1,5 @@
 // The guest's writer of requests and reader of acks by number: values go to places that are lent for them, which a refusal leaves
-// as they were.
+// as they were. C is answered by number.
 #![tactic(auto)]
 
 ghost use Rattle.std.specs.Prelude.{◌≡◌};
@@ -28,7 +28,7 @@ pub fn tell_written(answer: Result<usize, WriteRefusal>, length: &mut usize) -> 
     }
 }
 
-// Reads the ack to a request of type `kind`.
+// Reads the ack to a request of type `kind`, a number: any can stand in a header, and C tells the reader one.
 pub fn read_ack(kind: u32, message: &[u8], status: &mut u32, flags: &mut u32) -> u32
     ensures value { result ≡ number_of (read_ack kind message.now) }
     ensures status_after { status.new ≡ placed status_told (read_ack kind message.now) status.old }

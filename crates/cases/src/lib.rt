@@ -59,10 +59,10 @@ const STDOUT: i32 = 1;
 // Octets before the body.
 const HEAD: usize = 3;
 
-// What no program has for a kind.
+// What no program has for a kind: a case that is cut short is handed to the program too, which goes on with the next file.
 const NO_KIND: u8 = 255;
 
-// The most files of a program.
+// The most files of a program. Each goes over them by a `for` of its own: a closure would have to say what its state keeps.
 pub const PARTS: u8 = 10;
 
 // Reads the file with this number behind its name into the buffer, and answers how many octets it has. No file counts as an

@@ -11,7 +11,7 @@ ghost use Rattle.directions.specs.Inner.{FoundIn};
 use toeplitz::{HashType, KEY_LENGTH, TwoWayRefusal, next_window, octet_window};
 
 // The lowest bit that, alone set, gives an input with another hash than its reverse; none where the two directions of every
-// conversation have one hash under the key.
+// conversation have one hash under the key. The type is a number: C asks by number, and any can come.
 pub fn two_way(key: &[u8], hash_type: u32) -> Result<Option<usize>, TwoWayRefusal>
     ensures { two_way_outcome_of result ≡ two_way_outcome key.now hash_type }
 {

@@ -3,7 +3,7 @@ use case_tools::BUFFER;
 use cases::print_cut;
 use page::{REQ_PROD, RSP_CONS};
 
-// The kinds: octets put at a place, octets made there, octets sent, and octets of acks taken. Those between are not the
+// The kinds, octets of the case files: octets put at a place, octets made there, octets sent, and octets of acks taken. Those between are not the
 // guest's alone.
 const PATCH: u8 = 1;
 

@@ -1,4 +1,4 @@
-// The answers of the guest's end by their numbers.
+// The answers of the guest's end by their numbers: C is answered by number.
 #![tactic(auto)]
 
 ghost use Rattle.std.specs.Prelude.{◌≡◌};

@@ -28,7 +28,7 @@ pub const OUTSTANDING: u64 = 1;
 pub const FAILED: u64 = 2;
 
 // The guest's end of a ring: the phase; the present request, or the last one, with the own req_prod; and the ack, with the own
-// rsp_cons. There is no padding: C has the fields one after the other.
+// rsp_cons. There is no padding: C has the fields one after the other. What holds of it is asked in clauses: C lends setup any numbers.
 #[repr(C)]
 #[derive(Drop)]
 pub struct Guest {

@@ -29,7 +29,7 @@ pub fn write_on(guest: &mut Guest, room: u32, page: &mut [u8]) -> Progress
     }
 }
 
-// Writes both own counts.
+// Writes both own counts. They stand at other places than an interface's, so each end has its own.
 pub fn write_counts(guest: &Guest, page: &mut [u8])
     requires { (length page.old ≡ page_size) × CountsFit (state_of guest.now) }
     ensures { page.new ≡ counted_by_guest page.old guest.now.incoming.cons guest.now.outgoing.prod }

@@ -7,7 +7,7 @@ use case_tools::{BUFFER, digest, print_form, print_number, print_word};
 use interface::Interface;
 use ring::{Receiving, Sending};
 
-// The interface that a program begins with is as setup with one queue leaves it.
+// The interface that a program begins with is as setup with one queue leaves it, field by field: setup writes into a struct.
 pub fn first_interface() -> Interface
     ensures { Good (state_of result) }
 {

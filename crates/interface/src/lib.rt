@@ -26,7 +26,8 @@ const OWED: u32 = 2;
 
 // One interface: its queues, flags and number of mapping entries; how far the present request is read, and the ack to the last
 // one written; that request, of whose payload the first 1,024 octets are kept; the ack; the key, and the queue of each mapping
-// entry, with zeros behind the table. C has the struct too, so each number takes eight octets, and there is no padding.
+// entry, with zeros behind the table. C has the struct too, so each number takes eight octets, and there is no padding. What holds
+// of it is asked in clauses: C lends setup any numbers.
 #[repr(C)]
 #[derive(Clone, Copy)]
 pub struct Interface {

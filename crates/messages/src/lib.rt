@@ -52,8 +52,8 @@ pub const MAX_PAYLOAD: usize = 1024;
 
 pub const MAX_ACK: usize = 24;
 
-// A mapping table: the queue of each entry. Octets of the array behind the table are 0. There is no heap, and C has array and
-// count side by side, so they are so here and in an ack.
+// A mapping table: the queue of each entry. Octets of the array behind the table are 0. C's struct has array and count side by side,
+// so they are so here and in an ack, which go into it as they are.
 #[derive(Drop)]
 pub struct Mapping {
     pub entries: [u8; MAX_ENTRIES],

@@ -17,7 +17,7 @@ const REQUESTS_WRONG: u32 = 4;
 const RESPONSES_WRONG: u32 = 5;
 
 // Octets of the page, and of each area. A page is a slice, and its length stands in the clauses: a slice turned into an array by
-// `try_from` was tried, and what is then written to the array is not known of the slice.
+// `try_from` was tried, and what is then written to the array is not known of the slice; by `first_chunk_mut` an arm is never reached.
 pub const PAGE: usize = 4096;
 
 pub const AREA: u32 = 1024;

@@ -27,7 +27,8 @@ pub struct Tally {
     pub octets: u32,
 }
 
-// A tally for each queue in operation; how many packets have no hash, which are counted on queue 0 too; and the total.
+// A tally for each queue in operation; how many packets have no hash, which are counted on queue 0 too; and the total. It is no
+// `Copy`: an `ArrayVec` is none.
 #[derive(Debug, Drop)]
 pub struct Counts {
     pub queues: ArrayVec<Tally, MAX_QUEUES>,

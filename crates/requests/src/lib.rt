@@ -11,7 +11,7 @@ use interface::Interface;
 use messages::{ALL_FLAGS, Ack, Refusal, RequestType, SUCCESS};
 
 // Carries out the request that the interface holds, which is whole: its effect goes into the settings, its ack is owed, and the
-// next request begins.
+// next request begins. That the queue count fits in an octet is a clause, since C's struct has it in eight.
 pub fn carry_out(i: &mut Interface)
     requires { i.old.queues < 2 ^ 8 }
     ensures { state_of i.new ≡ carried_over (state_of i.old) }
@@ -27,7 +27,7 @@ pub fn carry_out(i: &mut Interface)
     i.outgoing.written = 0;
 }
 
-// Judges the request, and puts its effect into the settings if it passes.
+// Judges the request, and puts its effect into the settings if it passes. Its type is the header's number: any can stand there.
 fn judge(i: &mut Interface, kind: u32, size: u32) -> Result<(), Refusal>
     requires { i.old.queues < 2 ^ 8 }
     ensures settings_after { Leaves (request_of kind) (settings_in i.old) size i.old.payload (status_told result) (settings_in i.new) }

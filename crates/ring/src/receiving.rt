@@ -14,7 +14,8 @@ use messages::{HEADER, SIZE_AT};
 const HEADER_OCTETS: u64 = HEADER as u64;
 
 // How many octets are taken of the present message, and the own count of octets read, which is a 32-bit count as on the page.
-// C reads the fields, so they are its numbers; header and payload stand elsewhere in its struct.
+// C reads the fields, so they are its numbers; header and payload stand elsewhere in its struct. What holds of them is asked in
+// clauses, as for `Sending`.
 #[repr(C)]
 #[derive(Clone, Copy)]
 pub struct Receiving {

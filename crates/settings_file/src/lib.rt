@@ -59,7 +59,7 @@ pub fn load_settings(file: &[u8]) -> Result<Interface, SettingsRefusal>
     Ok(interface)
 }
 
-// An interface before its setup.
+// An interface before its setup, field by field: with a derived `Default` the proof did not close.
 fn blank() -> Interface {
     Interface {
         queues: 0,
@@ -79,7 +79,8 @@ fn blank() -> Interface {
     }
 }
 
-// Carries out the messages one after the other, up to the first that is refused.
+// Carries out the messages one after the other, up to the first that is refused. A `while` goes over what is left of a slice: how
+// much a step takes is known after it alone, and a step can be refused.
 #[tactic(auto, using(crate::proofs::Loads::from_empty))]
 fn carry_out_all(i: &mut Interface, messages: &[u8]) -> Result<(), SettingsRefusal>
     requires { Good (settings_in i.old) }

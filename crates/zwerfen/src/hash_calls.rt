@@ -14,7 +14,7 @@ pub extern "C" fn zwerfen_hash(key: &[u8], input: &[u8], hash: &mut u32) -> u32
     questions::hash(key, input, hash)
 }
 
-// Whether the two directions of every conversation have one hash under the key, and else the lowest bit that tells.
+// Whether the two directions of every conversation have one hash under the key, and else the lowest bit that tells. C asks by number.
 #[unsafe(no_mangle)]
 pub extern "C" fn zwerfen_two_way(
     key: &[u8],
