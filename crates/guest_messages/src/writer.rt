@@ -77,7 +77,8 @@ fn write_fields(buffer: &mut [u8], kind: u32, numbers: &[u64]) -> Result<usize, 
     Ok(length)
 }
 
-// The header of a message with a payload of `size` octets, its type by the number that stands in it, if the buffer has room for both; answers how long both are.
+// The header of a message with a payload of `size` octets, its type by the number that stands in it, if the buffer has room
+// for both; answers how long both are.
 #[tactic(auto, using(crate::proofs::Buffers::header_put))]
 fn write_header(buffer: &mut [u8], kind: u32, size: usize) -> Result<usize, WriteRefusal>
     requires { size ≤ max_payload }

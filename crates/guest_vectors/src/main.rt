@@ -11,8 +11,8 @@ use guest_cases::new_guest;
 use guest_steps::Guest;
 use interface::Interface;
 
-// The kinds, which are octets of the case files: a new guest, and behind the guest's calls other counts in the page, which both ends take their own from, the
-// host's two calls, and octets put into the buffer.
+// The kinds, which are octets of the case files: a new guest, and behind the guest's calls other counts in the page, which both
+// ends take their own from, the host's two calls, and octets put into the buffer.
 const GUEST_SET_UP: u8 = 0;
 
 const COUNTS: u8 = 6;
