@@ -13,8 +13,7 @@ returns-in_default-clause-wrong c =
 pub returns-in_default-split_at_checked-clause-wrong : goal.returns-in_default-split_at_checked-clause-wrong
 returns-in_default-split_at_checked-clause-wrong c =
     let parts = c.in-Some.ensures.cases in
-    first-cut c.args.octets.now _ c.in-Some.rest.now _ parts.0 parts.1 c.read_u32-size.ensures _ c.requires.1
-        c.in_default-split_at_checked.ensures.cases
+    first-cut c.args.octets.now _ c.in-Some.rest.now _ parts.0 parts.1 c.read_u32-size.ensures _ c.requires.1 c.in_default-split_at_checked.ensures.cases
 
 pub returns-then-read_u64-clause-good : goal.returns-then-read_u64-clause-good
 returns-then-read_u64-clause-good c =
