@@ -17,18 +17,16 @@ pub fn print_number(name: &[u8], n: u64) {
 // Prints a line by its form: each `#` stands for the decimal digits of the next number, and each `$` for eight hexadecimal
 // digits of it.
 pub fn print_form(form: &[u8], numbers: &[u64]) {
-    let mut printed: usize = 0;
-    let mut next: usize = 0;
-    for i in 0..form.len() {
-        let octet = form[i];
-        if is_mark(octet) {
-            print_word(&form[printed..i]);
-            print_next(octet, numbers.get(next).copied());
-            printed = i + 1;
-            next += 1;
+    let mut numbers = numbers.iter();
+    for part in form.split_inclusive(|octet: &u8| is_mark(*octet)) {
+        match part.split_last() {
+            Some((mark, word)) if is_mark(*mark) => {
+                print_word(word);
+                print_next(*mark, numbers.next().copied());
+            }
+            _ => print_word(part),
         }
     }
-    print_word(&form[printed..]);
 }
 
 fn is_mark(octet: u8) -> bool {

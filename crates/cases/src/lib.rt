@@ -3,9 +3,10 @@
 #![tactic(auto)]
 
 ghost use Rattle.std.specs.Prelude.{◌≡◌, ◌+◌, ◌≤◌, ◌<◌};
-ghost use Rattle.octets.specs.Prelude.{length};
+ghost use Rattle.octets.specs.Prelude.{length, []};
 ghost use Rattle.io.specs.Counts.{IsPrefixLen};
 
+use arrayvec::ArrayVec;
 use std::rt::Files;
 
 // A case of a file.
@@ -119,7 +120,7 @@ pub fn number_at(octets: &[u8], at: usize) -> usize
     requires { at + 2 ≤ length octets.now }
     ensures { result < 65536 }
 {
-    usize::from(octets[at]) + 256 * usize::from(octets[at + 1])
+    usize::from(u16::from_le_bytes([octets[at], octets[at + 1]]))
 }
 
 // The number at the start of a body, where it is at most `most`. One that is cut short or too high is told, and counts as 0.
@@ -150,31 +151,14 @@ pub fn keep(buffer: &mut [u8], body: &[u8]) -> usize
     n
 }
 
-// What a program needs again of a case: the next case may be in another file, so it is copied. There is no heap here, so the
-// octets stand in an array, with their number beside it.
-#[derive(Clone, Copy)]
-pub struct Kept<const N: usize> {
-    octets: [u8; N],
-    length: usize,
-    ghost inside: { length ≤ N },
-}
-
-impl<const N: usize> Kept<N> {
-    pub fn none() -> Self {
-        Kept {
-            octets: [0; N],
-            length: 0,
-        }
-    }
-
-    // Keeps the body of a case in place of what was kept; nothing where it does not fit.
-    pub fn keep(&mut self, body: &[u8]) {
-        self.length = keep(&mut self.octets, body);
-    }
-
-    // The octets that are kept.
-    pub fn octets(&self) -> &[u8] {
-        let octets = &self.octets[..];
-        &octets[..self.length]
+// Keeps the body of a case in place of what was kept, where a program needs it for the cases behind it; nothing where it does
+// not fit.
+pub fn keep_instead<const N: usize>(kept: &mut ArrayVec<u8, N>, body: &[u8])
+    ensures fits { length body.now ≤ N → kept.new.items ≡ body.now }
+    ensures too_long { N < length body.now → kept.new.items ≡ [] }
+{
+    kept.clear();
+    if kept.try_extend_from_slice(body).is_err() {
+        print_cut();
     }
 }

@@ -5,7 +5,7 @@ ghost use Rattle.std.specs.Prelude.{◌≡◌, ◌≤◌};
 ghost use Rattle.octets.specs.Prelude.{length};
 ghost use Rattle.guest_steps.specs.Guest.{Good, state_of};
 
-use case_tools::{BUFFER, print_number};
+use case_tools::{BUFFER, print_number, print_word};
 use guest_messages::AckRead;
 use guest_steps::{Ask, Guest, MAX_ACK_PAYLOAD, MAX_REQUEST, Progress, Refusal};
 use messages::HEADER;
@@ -64,25 +64,26 @@ fn call_on(guest: &mut Guest, page: &mut [u8], kind: u8, given: &[u8])
     requires { Good (state_of guest.old) }
     ensures { Good (state_of guest.new) }
 {
-    if kind == EVENT {
-        print_event(frontend::event(guest, page));
-        return;
+    match kind {
+        EVENT => print_event(frontend::event(guest, page)),
+        START_GET_FLAGS => start(guest, page, Ask::GetFlags),
+        START_SET_FLAGS => start(guest, page, Ask::SetFlags(flags_in(given))),
+        START_SET_KEY => start(guest, page, Ask::SetKey(given)),
+        _ => {
+            let count = count_in(given);
+            let entries = case_tools::entries_in(given, 2, count);
+            start(guest, page, Ask::SetMapping(&entries[..count]));
+        }
     }
-    let count = count_in(given);
-    let entries = case_tools::entries_in(given, 2, count);
-    let ask = ask_in(kind, given, &entries[..count]);
-    let answer = frontend::start(guest, page, ask);
-    print_number(b"guest ", answer.map_or_else(u32::from, u32::from) as u64);
 }
 
-// What a start asks for. A key is what is given, and a mapping has the entries that are read from it.
-fn ask_in<'a>(kind: u8, given: &'a [u8], entries: &'a [u64]) -> Ask<'a> {
-    match kind {
-        START_GET_FLAGS => Ask::GetFlags,
-        START_SET_FLAGS => Ask::SetFlags(flags_in(given)),
-        START_SET_KEY => Ask::SetKey(given),
-        _ => Ask::SetMapping(entries),
-    }
+// Starts a request, and prints what the start answers.
+fn start(guest: &mut Guest, page: &mut [u8], ask: Ask)
+    requires { Good (state_of guest.old) }
+    ensures { Good (state_of guest.new) }
+{
+    let answer = frontend::start(guest, page, ask);
+    print_number(b"guest ", answer.map_or_else(u32::from, u32::from) as u64);
 }
 
 fn flags_in(given: &[u8]) -> u64 {
@@ -110,10 +111,16 @@ fn count_in(given: &[u8]) -> usize
 fn print_event(answer: Result<Progress, Refusal>) {
     print_number(b"guest ", answer.map_or_else(u32::from, u32::from) as u64);
     if let Ok(Progress::Acked(ack)) = answer {
-        match ack {
-            AckRead::Status(status) => print_number(b" status ", status as u64),
-            AckRead::Flags(flags) => print_number(b" status 0 flags ", flags as u64),
-        }
+        print_word(b" ");
+        print_ack(ack);
+    }
+}
+
+// What an ack says: its status, or status 0 and the flags.
+pub fn print_ack(ack: AckRead) {
+    match ack {
+        AckRead::Status(status) => print_number(b"status ", status as u64),
+        AckRead::Flags(flags) => print_number(b"status 0 flags ", flags as u64),
     }
 }
 

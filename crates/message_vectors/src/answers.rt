@@ -39,8 +39,7 @@ pub(crate) fn print_written(written: Result<usize, WriteRefusal>, buffer: &[u8])
 
 pub(crate) fn print_ack_answer(answer: Result<AckRead, NotAnAck>) {
     match answer {
-        Ok(AckRead::Status(status)) => print_number(b"status ", status as u64),
-        Ok(AckRead::Flags(flags)) => print_number(b"status 0 flags ", flags as u64),
+        Ok(ack) => guest_cases::print_ack(ack),
         Err(refusal) => print_number(b"refused ", u32::from(refusal) as u64),
     }
     case_tools::print_word(b"\n");

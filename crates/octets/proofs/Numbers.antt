@@ -116,6 +116,15 @@ number-four xs i =
     let three : i + 2 + 1 ≡ i + 3 = omega arith in
     rw (number-suc 3 xs i, number-suc 2 xs (i + 1), two, number-suc 1 xs (i + 2), three, number-suc 0 xs (i + 3), number-zero) (omega arith)
 
+pub number-eight : (xs : List ℕ) (i : ℕ)
+    → number_at 8 xs i ≡ get_or xs i 0 + 256 * get_or xs (i + 1) 0 + 65536 * get_or xs (i + 2) 0 + 16777216 * get_or xs (i + 3) 0
+        + 4294967296 * (get_or xs (i + 4) 0 + 256 * get_or xs (i + 5) 0 + 65536 * get_or xs (i + 6) 0 + 16777216 * get_or xs (i + 7) 0)
+number-eight xs i =
+    let five : i + 4 + 1 ≡ i + 5 = omega arith in
+    let six : i + 4 + 2 ≡ i + 6 = omega arith in
+    let seven : i + 4 + 3 ≡ i + 7 = omega arith in
+    rw (number-add 4 4 xs i, number-four xs i, number-four xs (i + 4), five, six, seven) (omega arith)
+
 -- octets by the library's words
 low-octet : (i v : ℕ) → v / 256 ^ i % 256 ≡ byte_at i v
 low-octet zero v = ap (λ (x : ℕ). x % 256) (div-one v)

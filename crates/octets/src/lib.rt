@@ -55,7 +55,16 @@ pub fn read_u64(octets: &[u8], at: usize) -> u64
     requires { at + 8 ≤ length octets.now }
     ensures { result ≡ number_at 8 octets.now at }
 {
-    read_u32(octets, at) as u64 + 4294967296 * (read_u32(octets, at + 4) as u64)
+    u64::from_le_bytes([
+        octets[at],
+        octets[at + 1],
+        octets[at + 2],
+        octets[at + 3],
+        octets[at + 4],
+        octets[at + 5],
+        octets[at + 6],
+        octets[at + 7],
+    ])
 }
 
 // Puts v into the four octets from `at` on.

@@ -2,8 +2,9 @@
 // goes under the settings before it.
 #![tactic(auto)]
 
+use arrayvec::ArrayVec;
 use case_tools::{print_number, print_word};
-use cases::{Cases, Kept};
+use cases::Cases;
 use packet::IpPacket;
 use toeplitz::HashType;
 
@@ -22,7 +23,7 @@ const MOST: usize = 169;
 
 fn main(rt: HostRuntime) {
     let mut buffer = io::large_buffer();
-    let mut settings: Kept<MOST> = Kept::none();
+    let mut settings = ArrayVec::new();
     for part in 0..cases::PARTS {
         // A file that is not there has no case.
         let n = cases::load_part(&rt, part, &mut buffer);
@@ -31,11 +32,11 @@ fn main(rt: HostRuntime) {
 }
 
 // Runs the cases of one file under the settings that those before it left.
-fn run(cases: &[u8], settings: &mut Kept<MOST>) {
+fn run(cases: &[u8], settings: &mut ArrayVec<u8, MOST>) {
     for case in (Cases { rest: cases }) {
         match case.kind {
-            SETTINGS => settings.keep(case.body),
-            PACKET => print_answer(settings.octets(), case.body),
+            SETTINGS => cases::keep_instead(settings, case.body),
+            PACKET => print_answer(settings.as_slice(), case.body),
             _ => {}
         }
     }

@@ -2,7 +2,8 @@
 // kept for the cases behind them.
 #![tactic(auto)]
 
-use cases::{Case, Cases, Kept, print_cut};
+use arrayvec::ArrayVec;
+use cases::{Case, Cases, print_cut};
 
 // The kinds, which are octets of the case files: a settings file, a capture with its report, every cut of the capture, every cut of the settings, and
 // both with zeros behind them.
@@ -28,15 +29,15 @@ const LENGTHS: usize = 8;
 // The settings file and the capture that are kept.
 #[derive(Drop)]
 struct Files {
-    settings: Kept<LONGEST>,
-    captured: Kept<LONGEST>,
+    settings: ArrayVec<u8, LONGEST>,
+    captured: ArrayVec<u8, LONGEST>,
 }
 
 fn main(rt: HostRuntime) {
     let mut buffer = io::large_buffer();
     let mut files = Files {
-        settings: Kept::none(),
-        captured: Kept::none(),
+        settings: ArrayVec::new(),
+        captured: ArrayVec::new(),
     };
     for part in 0..cases::PARTS {
         // A file that is not there has no case.
@@ -49,15 +50,15 @@ fn main(rt: HostRuntime) {
 fn run(cases: &[u8], files: &mut Files) {
     for case in (Cases { rest: cases }) {
         keep(files, case);
-        print_answer(case, files.settings.octets(), files.captured.octets());
+        print_answer(case, files.settings.as_slice(), files.captured.as_slice());
     }
 }
 
 // Keeps the file that a case gives.
 fn keep(files: &mut Files, case: Case) {
     match case.kind {
-        SETTINGS => files.settings.keep(case.body),
-        CAPTURE => files.captured.keep(case.body),
+        SETTINGS => cases::keep_instead(&mut files.settings, case.body),
+        CAPTURE => cases::keep_instead(&mut files.captured, case.body),
         _ => {}
     }
 }
