@@ -118,7 +118,7 @@ number-four xs i =
 
 pub number-eight : (xs : List ℕ) (i : ℕ)
     → number_at 8 xs i ≡ get_or xs i 0 + 256 * get_or xs (i + 1) 0 + 65536 * get_or xs (i + 2) 0 + 16777216 * get_or xs (i + 3) 0
-        + 4294967296 * (get_or xs (i + 4) 0 + 256 * get_or xs (i + 5) 0 + 65536 * get_or xs (i + 6) 0 + 16777216 * get_or xs (i + 7) 0)
+    + 4294967296 * (get_or xs (i + 4) 0 + 256 * get_or xs (i + 5) 0 + 65536 * get_or xs (i + 6) 0 + 16777216 * get_or xs (i + 7) 0)
 number-eight xs i =
     let five : i + 4 + 1 ≡ i + 5 = omega arith in
     let six : i + 4 + 2 ≡ i + 6 = omega arith in
