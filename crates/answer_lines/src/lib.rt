@@ -37,6 +37,7 @@ pub fn two_way_text(key: &[u8]) -> Text
     text
 }
 
+// The question takes its type by number, as C asks it.
 fn two_way(key: &[u8], hash_type: HashType) -> Result<Option<usize>, TwoWayRefusal>
     ensures { two_way_outcome_of result ≡ two_way_outcome key.now (type_number hash_type) }
 {
