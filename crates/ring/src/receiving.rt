@@ -51,7 +51,7 @@ impl Receiving {
         let more = read_payload(
             page,
             area,
-            &header[..],
+            header,
             payload,
             self.taken + some,
             cons.wrapping_add(some as u32),
@@ -63,8 +63,7 @@ impl Receiving {
 }
 
 // The length of the message with this header.
-fn message_length(header: &[u8]) -> u64
-    requires { length header.now ≡ header_size }
+fn message_length(header: &[u8; HEADER]) -> u64
     ensures { (result ≡ message_length header.now) × (result < 2 ^ 33) }
 {
     HEADER_OCTETS + octets::read_u32(header, SIZE_AT) as u64
@@ -72,8 +71,15 @@ fn message_length(header: &[u8]) -> u64
 
 // Reads what is missing of the header, as far as it stands among the n octets from `count` on, and answers how many
 // octets that is.
-fn read_header(page: &[u8], area: usize, header: &mut [u8], taken: u64, count: u32, n: u64) -> u64
-    requires { (area + area_size ≤ length page.now) × (length header.old ≡ header_size) }
+fn read_header(
+    page: &[u8],
+    area: usize,
+    header: &mut [u8; HEADER],
+    taken: u64,
+    count: u32,
+    n: u64,
+) -> u64
+    requires { area + area_size ≤ length page.now }
     ensures value { result ≡ header_moved taken n }
     ensures header_after { header.new ≡ sets header.old taken (octets_in area page.now count result) }
 {
@@ -90,13 +96,13 @@ fn read_header(page: &[u8], area: usize, header: &mut [u8], taken: u64, count: u
 fn read_payload(
     page: &[u8],
     area: usize,
-    header: &[u8],
+    header: &[u8; HEADER],
     payload: &mut [u8],
     taken: u64,
     count: u32,
     n: u64,
 ) -> u64
-    requires area_in_page { (area + area_size ≤ length page.now) × (length header.now ≡ header_size) }
+    requires area_in_page { area + area_size ≤ length page.now }
     requires n_le_area_size { (n ≤ area_size) × (taken ≤ message_length header.now) }
     ensures value { result ≡ payload_moved header.now taken n }
     ensures payload_after { payload.new ≡ sets payload.old (taken - header_size) (octets_in area page.now count result) }
