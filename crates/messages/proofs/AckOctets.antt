@@ -10,15 +10,19 @@ use Rattle.messages.specs.Requests.{status_payload, flags_payload, carries_flags
 use Rattle.messages.specs.declared.Ack.{Ack}
 use Rattle.messages.proofs.Parts.{length-message}
 
--- type 1 and the size, and the number in the octets from index i on, all else zeros
-abbrev stored : ℕ → ℕ → ℕ → ℕ → Ack
-stored size i v n = record { octets = set (set (set (replicate max_ack 0) 0 1) 4 size) i v; length = n }
+-- type 1 and the size, and the status, all else zeros
+abbrev stored : ℕ → Ack
+stored status = record { octets = set (set (set (replicate max_ack 0) 0 1) 4 8) 8 status; length = 16 }
 
-pub status-stored : (status : ℕ) → status < 256 → stored 8 8 status 16 ≡ ack_stored (status_payload status)
+pub status-stored : (status : ℕ) → status < 256 → stored status ≡ ack_stored (status_payload status)
 unfolding message header octets_of
 status-stored status h = ap ack_stored (sym (octets-small 7 status h))
 
-pub flags-stored : (flags : ℕ) → flags < 256 → stored 16 16 flags 24 ≡ ack_stored (flags_payload flags)
+-- an ack with another size, and flags behind its status
+abbrev flags_behind : Ack → ℕ → Ack
+flags_behind ack flags = record { octets = set (set ack.octets 4 16) 16 flags; length = ack.length + 8 }
+
+pub flags-stored : (flags : ℕ) → flags < 256 → flags_behind (ack_stored (status_payload success)) flags ≡ ack_stored (flags_payload flags)
 unfolding message header octets_of
 flags-stored flags h = ap (λ (x : List ℕ). ack_stored (octets_of field_size success ++ x)) (sym (octets-small 7 flags h))
 

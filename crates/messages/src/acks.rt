@@ -1,5 +1,4 @@
-// The two kinds of ack. Each number in one fits its lowest octet, so only that one is stored. They share but four lines, and a
-// function over any number of fields would be a loop with an invariant for these two.
+// The two kinds of ack. Each number in one fits its lowest octet, so only that one is stored.
 ghost use Rattle.std.specs.Prelude.{◌≡◌};
 ghost use Rattle.messages.specs.Requests.{ack_stored, status_payload, flags_payload};
 
@@ -23,13 +22,9 @@ pub fn with_status(status: u8) -> Ack
 pub fn with_flags(flags: u8) -> Ack
     ensures { result ≡ ack_stored (flags_payload flags) }
 {
-    let mut octets = [0u8; MAX_ACK];
-    octets[0] = ACK_TYPE as u8;
-    octets[SIZE_AT] = (FIELD + FIELD) as u8;
-    octets[HEADER] = SUCCESS;
-    octets[HEADER + FIELD] = flags;
-    Ack {
-        octets,
-        length: HEADER + FIELD + FIELD,
-    }
+    let mut ack = with_status(SUCCESS);
+    ack.octets[SIZE_AT] = (FIELD + FIELD) as u8;
+    ack.octets[HEADER + FIELD] = flags;
+    ack.length += FIELD;
+    ack
 }

@@ -4,4 +4,4 @@ use Rattle.std.proofs.Common.{rules}
 use Rattle.messages.proofs.acks.with_flags.Goals as goal
 
 pub returns : goal.returns
-returns c = flags-stored _ (search rules)
+returns c = rw c.with_status-ack.ensures (flags-stored _ (search rules))
