@@ -79,8 +79,8 @@ fn blank() -> Interface {
     }
 }
 
-// Carries out the messages one after the other, up to the first that is refused. A `while` goes over what is left of a slice: how
-// much a step takes is known after it alone, and a step can be refused.
+// Carries out the messages one after the other, up to the first that is refused. A `while` goes over what is left of a slice: an
+// iterator of messages would be a type with a promise and a proof of its own, for this one loop.
 #[tactic(auto, using(crate::proofs::Loads::from_empty))]
 fn carry_out_all(i: &mut Interface, messages: &[u8]) -> Result<(), SettingsRefusal>
     requires { Good (settings_in i.old) }

@@ -31,7 +31,7 @@ pub enum Steered {
 const DEFAULT_QUEUE: u8 = 0;
 
 // The type, hash and queue of a packet under these flags, key and mapping table, which are those of one interface. They are lent
-// apart: a struct of the three would be made for each packet, and only this function takes them all.
+// apart, as an interface has them: a struct of the three would be made for each packet.
 pub fn steer(flags: u8, key: &[u8], table: &[u8], packet: &[u8]) -> Steered
     requires { Usable key.now table.now }
     ensures { choice_of result ≡ steered flags key.now table.now packet.now }
