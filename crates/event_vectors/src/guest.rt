@@ -1,6 +1,6 @@
 // What the guest does to the page between the calls.
 use case_tools::BUFFER;
-use cases::print_cut;
+use cases::{Case, print_cut};
 use page::{REQ_PROD, RSP_CONS};
 
 // The kinds, octets of the case files: octets put at a place, octets made there, octets sent, and octets of acks taken. Those between are not the
@@ -13,12 +13,12 @@ const SEND: u8 = 5;
 
 const TAKE: u8 = 6;
 
-pub(crate) fn act(page: &mut [u8; BUFFER], kind: u8, body: &[u8]) {
-    match kind {
-        PATCH => case_tools::patch(page, body),
-        FILL => case_tools::fill(page, body),
-        SEND => send(page, body),
-        TAKE => take(page, body),
+pub(crate) fn act(page: &mut [u8; BUFFER], case: Case) {
+    match case.kind {
+        PATCH => case_tools::patch(page, case.body),
+        FILL => case_tools::fill(page, case.body),
+        SEND => send(page, case.body),
+        TAKE => take(page, case.body),
         _ => {}
     }
 }
