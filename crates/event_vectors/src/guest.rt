@@ -25,13 +25,14 @@ pub(crate) fn act(page: &mut [u8; BUFFER], case: Case) {
 
 // Puts octets into the request area behind those sent before.
 fn send(page: &mut [u8; BUFFER], body: &[u8]) {
-    let mut count = octets::read_u32(page, REQ_PROD);
-    for octet in body {
-        let place = (count % page::AREA) as usize;
+    let count = octets::read_u32(page, REQ_PROD) as usize;
+    for (i, octet) in body.iter().enumerate() {
+        let place = (count + i) % page::AREA as usize;
         page[page::REQUESTS + place] = *octet;
-        count = count.wrapping_add(1);
     }
-    octets::write_u32(page, REQ_PROD, count);
+    // The count in the page has 32 bits, and 0 comes after the highest.
+    let sent = (count + body.len()) % (1 << 32);
+    octets::write_u32(page, REQ_PROD, sent as u32);
 }
 
 // So many more octets of acks have been read.
