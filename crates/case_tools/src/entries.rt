@@ -13,22 +13,9 @@ pub fn entries_in(given: &[u8], first: usize, count: usize) -> [u64; MAX_GIVEN]
     if given.len() < first + 8 {
         return entries;
     }
-    let last = given.len() - 8;
-    let mut at = first;
+    let given_entries = (given.len() - first) / 8;
     for k in 0..count {
-        entries[k] = octets::read_u64(given, at);
-        at = next_place(at, first, last);
+        entries[k] = octets::read_u64(given, first + k % given_entries * 8);
     }
     entries
-}
-
-// Where the entry behind the one at `at` stands; behind the last one comes the first.
-fn next_place(at: usize, first: usize, last: usize) -> usize
-    requires { (at ≤ last) × (first ≤ last) }
-    ensures { result ≤ last }
-{
-    if last - at < 8 {
-        return first;
-    }
-    at + 8
 }

@@ -22,14 +22,6 @@ pub struct Cases<'a> {
     pub rest: &'a [u8],
 }
 
-// A case's kind, and where its body stands and ends.
-#[derive(Clone, Copy)]
-struct Taken {
-    kind: u8,
-    start: usize,
-    end: usize,
-}
-
 impl<'a> Iterator for Cases<'a> {
     type Item = Case<'a>;
 
@@ -41,16 +33,12 @@ impl<'a> Iterator for Cases<'a> {
     ghost remaining = { λ s. at_most (octets_left s) };
 
     fn next(&mut self) -> Option<Case<'a>> {
-        let rest = self.rest;
-        if rest.len() == 0 {
+        if self.rest.is_empty() {
             return None;
         }
-        let taken = take_case(rest);
-        self.rest = &rest[taken.end..];
-        Some(Case {
-            kind: taken.kind,
-            body: &rest[taken.start..taken.end],
-        })
+        let (case, behind) = take_case(self.rest);
+        self.rest = behind;
+        Some(case)
     }
 }
 
@@ -60,7 +48,7 @@ const STDOUT: i32 = 1;
 // Octets before the body.
 const HEAD: usize = 3;
 
-// What no program has for a kind: a case that is cut short is handed to the program too, which goes on with the next file.
+// No program has this kind. A case cut short is handed to the program too, since one program says `cut` for it once more.
 const NO_KIND: u8 = 255;
 
 // The most files of a program. Each goes over them by a `for` of its own: a closure would have to say what its state keeps.
@@ -78,36 +66,34 @@ pub fn load_part<R: Files>(rt: &R, part: u8, buffer: &mut [u8]) -> usize
     files::read(rt, &name, buffer)
 }
 
-// The case that the octets begin with, so that the cases behind it begin at its end. One that is cut short is told, and has no
-// kind and no body: nothing stands behind it.
-fn take_case(cases: &[u8]) -> Taken
+// The case that the octets begin with, and the octets behind it. One that is cut short is told, and has no kind and no body:
+// nothing stands behind it.
+fn take_case<'a>(cases: &'a [u8]) -> (Case<'a>, &'a [u8])
     requires { 0 < length cases.now }
-    ensures { (0 < result.end) × (result.start ≤ result.end) × (result.end ≤ length cases.now) }
+    ensures { length result.1.now < length cases.now }
 {
-    if cases.len() < HEAD {
-        return cut_at(cases.len());
-    }
-    let n = number_at(cases, 1);
-    if cases.len() - HEAD < n {
-        return cut_at(cases.len());
-    }
-    Taken {
-        kind: cases[0],
-        start: HEAD,
-        end: HEAD + n,
-    }
+    let Some((head, rest)) = cases.split_first_chunk::<HEAD>() else {
+        return cut_case();
+    };
+    let Some((body, behind)) = rest.split_at_checked(number_at(head, 1)) else {
+        return cut_case();
+    };
+    let kind = head[0];
+    (Case { kind, body }, behind)
 }
 
-// A case cut short by the end of its file.
-fn cut_at(end: usize) -> Taken
-    ensures { (result.start ≡ end) × (result.end ≡ end) }
+// A case cut short by the end of its file, behind which nothing stands.
+fn cut_case<'a>() -> (Case<'a>, &'a [u8])
+    ensures { length result.1.now ≡ 0 }
 {
     print_cut();
-    Taken {
-        kind: NO_KIND,
-        start: end,
-        end,
-    }
+    (
+        Case {
+            kind: NO_KIND,
+            body: &[],
+        },
+        &[],
+    )
 }
 
 // Says that a case is cut short.
@@ -137,8 +123,7 @@ pub fn number_up_to(most: usize, body: &[u8]) -> usize
     0
 }
 
-// Copies the body of a case to the start of the buffer, and answers how many octets it has; none where it does not fit. The
-// next case may be in another file, so what a program needs again is copied.
+// Copies the body of a case to the start of the buffer, and answers how many octets it has; none where it does not fit.
 pub fn keep(buffer: &mut [u8], body: &[u8]) -> usize
     ensures { result ≤ length buffer.new }
 {
@@ -151,8 +136,8 @@ pub fn keep(buffer: &mut [u8], body: &[u8]) -> usize
     n
 }
 
-// Keeps the body of a case in place of what was kept, where a program needs it for the cases behind it; nothing where it does
-// not fit.
+// Keeps the body of a case in place of what was kept, or nothing where it does not fit. The next case may be in another
+// file, so what a program needs again is copied.
 pub fn keep_instead<const N: usize>(kept: &mut ArrayVec<u8, N>, body: &[u8])
     ensures fits { length body.now ≤ N → kept.new.items ≡ body.now }
     ensures too_long { N < length body.now → kept.new.items ≡ [] }

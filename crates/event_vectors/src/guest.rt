@@ -1,6 +1,6 @@
 // What the guest does to the page between the calls.
 use case_tools::BUFFER;
-use cases::print_cut;
+use cases::{Case, print_cut};
 use page::{REQ_PROD, RSP_CONS};
 
 // The kinds, octets of the case files: octets put at a place, octets made there, octets sent, and octets of acks taken. Those between are not the
@@ -13,25 +13,26 @@ const SEND: u8 = 5;
 
 const TAKE: u8 = 6;
 
-pub(crate) fn act(page: &mut [u8; BUFFER], kind: u8, body: &[u8]) {
-    match kind {
-        PATCH => case_tools::patch(page, body),
-        FILL => case_tools::fill(page, body),
-        SEND => send(page, body),
-        TAKE => take(page, body),
+pub(crate) fn act(page: &mut [u8; BUFFER], case: Case) {
+    match case.kind {
+        PATCH => case_tools::patch(page, case.body),
+        FILL => case_tools::fill(page, case.body),
+        SEND => send(page, case.body),
+        TAKE => take(page, case.body),
         _ => {}
     }
 }
 
 // Puts octets into the request area behind those sent before.
 fn send(page: &mut [u8; BUFFER], body: &[u8]) {
-    let mut count = octets::read_u32(page, REQ_PROD);
-    for octet in body {
-        let place = (count % page::AREA) as usize;
+    let count = octets::read_u32(page, REQ_PROD) as usize;
+    for (i, octet) in body.iter().enumerate() {
+        let place = (count + i) % page::AREA as usize;
         page[page::REQUESTS + place] = *octet;
-        count = count.wrapping_add(1);
     }
-    octets::write_u32(page, REQ_PROD, count);
+    // The count in the page has 32 bits, and 0 comes after the highest.
+    let sent = (count + body.len()) % (1 << 32);
+    octets::write_u32(page, REQ_PROD, sent as u32);
 }
 
 // So many more octets of acks have been read.

@@ -7,7 +7,7 @@ ghost use Rattle.interface.specs.States.{Good, state_of};
 mod guest;
 
 use case_tools::BUFFER;
-use cases::Cases;
+use cases::{Case, Cases};
 use interface::Interface;
 
 // The kinds, which are octets of the case files, that the interface has a part in, of which the last is the guest's too; the others are the guest's.
@@ -36,24 +36,24 @@ fn run(i: &mut Interface, page: &mut [u8; BUFFER], cases: &[u8])
     ensures { Good (state_of i.new) }
 {
     for case in (Cases { rest: cases }) {
-        answer(i, page, case.kind, case.body);
+        answer(i, page, case);
     }
 }
 
 // Answers one case.
-fn answer(i: &mut Interface, page: &mut [u8; BUFFER], kind: u8, body: &[u8])
+fn answer(i: &mut Interface, page: &mut [u8; BUFFER], case: Case)
     requires { Good (state_of i.old) }
     ensures { Good (state_of i.new) }
 {
-    match kind {
-        SET_UP => host_cases::set_up(i, body),
-        EVENT => host_cases::event(i, page, body),
-        PACKET => packet(i, body),
+    match case.kind {
+        SET_UP => host_cases::set_up(i, case.body),
+        EVENT => host_cases::event(i, page, case.body),
+        PACKET => packet(i, case.body),
         COUNTS => {
-            guest::empty_areas(page, body);
+            guest::empty_areas(page, case.body);
             host_cases::recount(i, page);
         }
-        _ => guest::act(page, kind, body),
+        _ => guest::act(page, case),
     }
 }
 

@@ -6,6 +6,7 @@ ghost use Rattle.octets.specs.Prelude.{length};
 ghost use Rattle.guest_steps.specs.Guest.{Good, state_of};
 
 use case_tools::{BUFFER, print_number, print_word};
+use cases::Case;
 use guest_messages::AckRead;
 use guest_steps::{Ask, Guest, MAX_ACK_PAYLOAD, MAX_REQUEST, Progress, Refusal};
 use messages::HEADER;
@@ -46,16 +47,16 @@ pub fn new_guest() -> Guest
 }
 
 // A call on so many octets of the buffer. The line has all octets, those behind the lent ones too.
-pub fn call(guest: &mut Guest, page: &mut [u8], kind: u8, body: &[u8])
+pub fn call(guest: &mut Guest, page: &mut [u8], case: Case)
     requires { Good (state_of guest.old) }
     ensures { Good (state_of guest.new) }
 {
-    if body.len() < 2 {
+    if case.body.len() < 2 {
         cases::print_cut();
         return;
     }
-    let n = cases::number_up_to(page.len(), body);
-    call_on(guest, &mut page[..n], kind, &body[2..]);
+    let n = cases::number_up_to(page.len(), case.body);
+    call_on(guest, &mut page[..n], case.kind, &case.body[2..]);
     print_left(guest, &page[..]);
 }
 

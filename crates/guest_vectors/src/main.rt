@@ -6,7 +6,7 @@ ghost use Rattle.interface.specs.States.{Good, state_of};
 ghost use Rattle.guest_steps.specs.Guest.{Good as GoodGuest, state_of as guest_of};
 
 use case_tools::{BUFFER, patch};
-use cases::Cases;
+use cases::{Case, Cases};
 use guest_cases::new_guest;
 use guest_steps::Guest;
 use interface::Interface;
@@ -43,42 +43,40 @@ fn run(guest: &mut Guest, interface: &mut Interface, page: &mut [u8; BUFFER], ca
     ensures { GoodGuest (guest_of guest.new) × Good (state_of interface.new) }
 {
     for case in (Cases { rest: cases }) {
-        answer_guest(guest, page, case.kind, case.body);
-        answer_host(interface, page, case.kind, case.body);
+        answer_guest(guest, page, case);
+        answer_host(interface, page, case);
     }
 }
 
 // The guest's part in a case.
-fn answer_guest(guest: &mut Guest, page: &mut [u8; BUFFER], kind: u8, body: &[u8])
+fn answer_guest(guest: &mut Guest, page: &mut [u8; BUFFER], case: Case)
     requires { GoodGuest (guest_of guest.old) }
     ensures { GoodGuest (guest_of guest.new) }
 {
-    match kind {
+    match case.kind {
         GUEST_SET_UP => {
             case_tools::print_word(b"guest set up\n");
             *guest = new_guest();
         }
-        guest_cases::START_GET_FLAGS..=guest_cases::EVENT => guest_cases::call(
-            guest, page, kind, body,
-        ),
+        guest_cases::START_GET_FLAGS..=guest_cases::EVENT => guest_cases::call(guest, page, case),
         COUNTS => {
-            patch(page, body);
+            patch(page, case.body);
             guest_cases::recount(guest, page);
         }
-        PATCH => patch(page, body),
-        FILL => case_tools::fill(page, body),
+        PATCH => patch(page, case.body),
+        FILL => case_tools::fill(page, case.body),
         _ => {}
     }
 }
 
 // The host's part in a case, which comes after the guest's.
-fn answer_host(interface: &mut Interface, page: &mut [u8; BUFFER], kind: u8, body: &[u8])
+fn answer_host(interface: &mut Interface, page: &mut [u8; BUFFER], case: Case)
     requires { Good (state_of interface.old) }
     ensures { Good (state_of interface.new) }
 {
-    match kind {
-        HOST_SET_UP => host_cases::set_up(interface, body),
-        HOST_EVENT => host_cases::event(interface, page, body),
+    match case.kind {
+        HOST_SET_UP => host_cases::set_up(interface, case.body),
+        HOST_EVENT => host_cases::event(interface, page, case.body),
         COUNTS => host_cases::recount(interface, page),
         _ => {}
     }

@@ -2,7 +2,7 @@
 // of its first part, an octet, and then its two parts.
 #![tactic(auto)]
 
-use cases::{Cases, print_cut};
+use cases::{Case, Cases, print_cut};
 
 // The kinds, which are octets of the case files: a hash call on a key and an input, a two-way call on a key and a hash type of one octet, and
 // what the two programs print for the second part.
@@ -23,22 +23,22 @@ fn main(rt: HostRuntime) {
 
 fn run(cases: &[u8]) {
     for case in (Cases { rest: cases }) {
-        split(case.kind, case.body);
+        split(case);
     }
 }
 
 // The two parts of a case.
-fn split(kind: u8, body: &[u8]) {
-    if body.len() < 1 {
+fn split(case: Case) {
+    if case.body.len() < 1 {
         print_cut();
         return;
     }
-    let second = 1 + usize::from(body[0]);
-    if body.len() < second {
+    let second = 1 + usize::from(case.body[0]);
+    if case.body.len() < second {
         print_cut();
         return;
     }
-    print_answer(kind, &body[1..second], &body[second..]);
+    print_answer(case.kind, &case.body[1..second], &case.body[second..]);
 }
 
 fn print_answer(kind: u8, first: &[u8], second: &[u8]) {

@@ -7,7 +7,7 @@ ghost use Rattle.octets.specs.Prelude.{length};
 
 mod answers;
 
-use cases::{Cases, print_cut};
+use cases::{Case, Cases, print_cut};
 use guest_messages::WriteRefusal;
 use interface::Interface;
 
@@ -53,20 +53,20 @@ fn run(i: &mut Interface, cases: &[u8])
     ensures { i.new.queues < 2 ^ 8 }
 {
     for case in (Cases { rest: cases }) {
-        answer(i, case.kind, case.body);
+        answer(i, case);
     }
 }
 
 // Answers one case.
-fn answer(i: &mut Interface, kind: u8, body: &[u8])
+fn answer(i: &mut Interface, case: Case)
     requires { i.old.queues < 2 ^ 8 }
     ensures { i.new.queues < 2 ^ 8 }
 {
-    match kind {
-        SET_UP if body.len() > 0 => *i = at_setup(body[0]),
-        REQUEST if body.len() >= messages::HEADER => request(i, body),
-        WRITE_GET_FLAGS..=WRITE_SET_MAPPING => write(kind, body),
-        READ => read(body),
+    match case.kind {
+        SET_UP if case.body.len() > 0 => *i = at_setup(case.body[0]),
+        REQUEST if case.body.len() >= messages::HEADER => request(i, case.body),
+        WRITE_GET_FLAGS..=WRITE_SET_MAPPING => write(case),
+        READ => read(case.body),
         _ => {}
     }
 }
@@ -85,14 +85,14 @@ fn request(i: &mut Interface, body: &[u8])
 }
 
 // The length of the output buffer, and what the request is to say. Octets that are not zero stand in the buffer before.
-fn write(kind: u8, body: &[u8]) {
-    if body.len() < 2 {
+fn write(case: Case) {
+    if case.body.len() < 2 {
         print_cut();
         return;
     }
-    let room = cases::number_up_to(MAX_BUFFER, body);
+    let room = cases::number_up_to(MAX_BUFFER, case.body);
     let mut buffer = [165; MAX_BUFFER];
-    write_and_print(&mut buffer[0..room], kind, &body[2..]);
+    write_and_print(&mut buffer[0..room], case.kind, &case.body[2..]);
 }
 
 fn write_and_print(buffer: &mut [u8], kind: u8, given: &[u8]) {

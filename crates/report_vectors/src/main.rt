@@ -17,7 +17,7 @@ const CUT_SETTINGS: u8 = 3;
 
 const STRETCHED: u8 = 4;
 
-// The most octets of a case's body.
+// Room for a body of any length.
 const LONGEST: usize = 65536;
 
 // More octets than a file may have, so that a case can have too many.
