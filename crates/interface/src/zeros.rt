@@ -1,4 +1,4 @@
-// An interface for `set_up` to write over, for callers that have none from C.
+// An interface of zeros: what setup begins from, and what a caller lends it that has none from C.
 ghost use Rattle.std.specs.Prelude.{◌≡◌};
 ghost use Rattle.interface.specs.States.{state_of, interface_of_zeros};
 
