@@ -3,7 +3,7 @@
 #![tactic(auto)]
 
 ghost use Rattle.std.specs.Prelude.{◌≡◌};
-ghost use Rattle.capture.specs.Header.{header_wrong};
+ghost use Rattle.capture.specs.Header.{header_wrong, header_outcome_of, link_outcome};
 ghost use Rattle.capture.specs.Records.{record_wrong};
 
 mod numbers;
@@ -21,6 +21,11 @@ const RECORD_WRONG: u32 = 15;
 pub const MAGIC: u32 = 0xA1B2C3D4;
 
 pub const MAGIC_AT: usize = 0;
+
+// The link types by their numbers.
+const ETHERNET: u32 = 1;
+
+const RAW: u32 = 101;
 
 // Octets of the capture's header, and of a record's.
 pub const CAPTURE_HEADER: usize = 24;
@@ -47,6 +52,22 @@ pub enum Link {
 // No header of a capture that is read here.
 #[derive(Clone, Copy, Debug, PartialEq, Eq)]
 pub struct HeaderWrong;
+
+// What the records hold under a link type.
+impl TryFrom<u32> for Link {
+    type Error = HeaderWrong;
+
+    ghost try_from_gives = { λ n r. header_outcome_of r ≡ link_outcome n };
+
+    #[tactic(auto, unfolding(crate::specs::Header::link_outcome))]
+    fn try_from(number: u32) -> Result<Link, HeaderWrong> {
+        match number {
+            ETHERNET => Ok(Link::Ethernet),
+            RAW => Ok(Link::Raw),
+            _ => Err(HeaderWrong),
+        }
+    }
+}
 
 // The captured octets of a record stand from `start` to `end`, where the next record begins.
 #[derive(Clone, Copy, Debug, PartialEq, Eq)]

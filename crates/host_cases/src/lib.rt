@@ -5,28 +5,15 @@ ghost use Rattle.interface.specs.States.{Good, state_of};
 
 use case_tools::{BUFFER, digest, print_form, print_number, print_word};
 use interface::Interface;
-use ring::{Receiving, Sending};
 
-// The interface that a program begins with is as setup with one queue leaves it, field by field: setup writes into a struct.
+// The interface that a program begins with: set up with one queue.
+#[tactic(auto, unfolding(interface::specs::States::set_up_outcome))]
 pub fn first_interface() -> Interface
     ensures { Good (state_of result) }
 {
-    Interface {
-        queues: 1,
-        flags: 0,
-        entry_count: 1,
-        incoming: Receiving { taken: 0, cons: 0 },
-        outgoing: Sending {
-            length: 0,
-            written: 0,
-            prod: 0,
-        },
-        header: [0; messages::HEADER],
-        payload: [0; messages::MAX_PAYLOAD],
-        ack: [0; messages::MAX_ACK],
-        key: [0; toeplitz::KEY_LENGTH],
-        entries: [0; messages::MAX_ENTRIES],
-    }
+    let mut interface = Interface::zeroed();
+    interface.set_up(1).unwrap();
+    interface
 }
 
 // A new interface with a queue count. Where that is refused, the one that there is stays.

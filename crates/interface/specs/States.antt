@@ -1,10 +1,11 @@
 -- The state of an interface: what setup answers, what holds of every state from then on, and the packet question.
 use Rattle.std.specs.Prelude.{Result, Ok, Err, ◌≡◌, ◌&&◌, ◌<◌}
-use Rattle.octets.specs.Prelude.{List, cond, ℕ, leb}
+use Rattle.octets.specs.Prelude.{List, cond, ℕ, replicate, leb}
 use Rattle.octets.specs.Outcome.{Outcome, value, refused, done}
+use Rattle.toeplitz.specs.Hash.{key_length}
 use Rattle.messages.specs.Wire.{max_payload}
 use Rattle.messages.specs.Requests.{max_ack}
-use Rattle.messages.specs.Settings.{Settings, max_queues, table_of, settings_of, settings_at_setup, Good as GoodSettings}
+use Rattle.messages.specs.Settings.{Settings, max_queues, max_entries, table_of, settings_of, settings_at_setup, Good as GoodSettings}
 use Rattle.steering.specs.Steering.{Choice, steered}
 use Rattle.ring.specs.Reading.{Incoming, incoming_in, incoming_at_setup, GoodIncoming}
 use Rattle.ring.specs.Writing.{Outgoing, outgoing_in, outgoing_at_setup, owed, GoodOutgoing}
@@ -31,6 +32,15 @@ state_of i =
       settings = settings_in i;
       incoming = incoming_in i.incoming i.header i.payload;
       outgoing = outgoing_in i.outgoing i.ack;
+    }
+
+-- before setup: every number 0, and every array zeros
+abbrev pub interface_of_zeros : HostState
+interface_of_zeros =
+    record {
+      settings = settings_of 0 0 (replicate key_length 0) (replicate max_entries 0) 0;
+      incoming = incoming_at_setup;
+      outgoing = outgoing_at_setup;
     }
 
 -- a new interface: the settings at setup, nothing read, no ack, both own counts 0

@@ -8,6 +8,7 @@ ghost use Rattle.interface.specs.Events.{progress_number};
 mod counts;
 mod packets;
 mod setup;
+mod zeros;
 
 use ring::{Receiving, Sending};
 

@@ -3,7 +3,7 @@
 
 ghost use Rattle.std.specs.Prelude.{◌≡◌, ◌≤◌};
 ghost use Rattle.octets.specs.Prelude.{length};
-ghost use Rattle.capture.specs.Header.{capture_header, is_classic, link_outcome, header_outcome, header_outcome_of};
+ghost use Rattle.capture.specs.Header.{capture_header, is_classic, header_outcome, header_outcome_of};
 ghost use Rattle.capture.specs.Packets.{holds_ip, ip_part};
 
 use capture::{CAPTURE_HEADER, HeaderWrong, Link, MAGIC, MAGIC_AT, Order};
@@ -18,11 +18,6 @@ const LINK_AT: usize = 20;
 const MAJOR: u32 = 2;
 
 const MINOR: u32 = 4;
-
-// The link types by their numbers.
-const ETHERNET: u32 = 1;
-
-const RAW: u32 = 101;
 
 // Octets of an Ethernet header, and where in it the type of what follows stands.
 const ETHERNET_HEADER: usize = 14;
@@ -46,7 +41,7 @@ pub fn header(capture: &[u8]) -> Result<Link, HeaderWrong>
     if !is_classic(capture, order) {
         return Err(HeaderWrong);
     }
-    link(order.number_at::<4>(capture, LINK_AT))
+    Link::try_from(order.number_at::<4>(capture, LINK_AT))
 }
 
 // Whether magic number and version are those of a classic capture.
@@ -58,18 +53,6 @@ fn is_classic(capture: &[u8], order: Order) -> bool
     order.number_at::<4>(capture, MAGIC_AT) == MAGIC
         && order.number_at::<2>(capture, MAJOR_AT) == MAJOR
         && order.number_at::<2>(capture, MINOR_AT) == MINOR
-}
-
-// What the records hold under this link type.
-#[tactic(auto, unfolding(capture::specs::Header::link_outcome))]
-fn link(number: u32) -> Result<Link, HeaderWrong>
-    ensures { header_outcome_of result ≡ link_outcome number }
-{
-    match number {
-        ETHERNET => Ok(Link::Ethernet),
-        RAW => Ok(Link::Raw),
-        _ => Err(HeaderWrong),
-    }
 }
 
 // The IP packet in the captured octets of a record, handed back as that part of them; no octets where there is none.

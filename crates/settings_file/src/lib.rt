@@ -11,9 +11,7 @@ ghost use Rattle.settings_file.specs.Inner.{GoesOn, Keeps, left_outcome};
 ghost use Rattle.settings_file.specs.declared.SettingsRefusal.TheVariants.{QueueCount};
 
 use interface::{Interface, QueuesWrong};
-use messages::{HEADER, MAX_ACK, MAX_ENTRIES, MAX_PAYLOAD, SIZE_AT, SUCCESS};
-use ring::{Receiving, Sending};
-use toeplitz::KEY_LENGTH;
+use messages::{HEADER, MAX_PAYLOAD, SIZE_AT, SUCCESS};
 
 // The number of the refusal of a message.
 const SETTINGS_WRONG: u32 = 22;
@@ -53,30 +51,10 @@ pub fn load_settings(file: &[u8]) -> Result<Interface, SettingsRefusal>
 {
     // A missing queue count is refused as 0 is.
     let (queues, messages) = file.split_first().unwrap_or((&0, &[]));
-    let mut interface = blank();
+    let mut interface = Interface::zeroed();
     interface.set_up(u32::from(*queues))?;
     carry_out_all(&mut interface, messages)?;
     Ok(interface)
-}
-
-// An interface before its setup, field by field: with a derived `Default` the proof did not close.
-fn blank() -> Interface {
-    Interface {
-        queues: 0,
-        flags: 0,
-        entry_count: 0,
-        incoming: Receiving { taken: 0, cons: 0 },
-        outgoing: Sending {
-            length: 0,
-            written: 0,
-            prod: 0,
-        },
-        header: [0; HEADER],
-        payload: [0; MAX_PAYLOAD],
-        ack: [0; MAX_ACK],
-        key: [0; KEY_LENGTH],
-        entries: [0; MAX_ENTRIES],
-    }
 }
 
 // Carries out the messages one after the other, up to the first that is refused. A `while` goes over what is left of a slice: an

@@ -1,7 +1,9 @@
--- `host_cases::first_interface` meets its contract: a new interface with one queue is good.
+-- `host_cases::first_interface` meets its contract: one queue is not refused, and a new interface with it is good.
 use Rattle.octets.specs.Prelude.{arith}
+use Rattle.interface.specs.States.{set_up_outcome}
 use Rattle.backend.proofs.Goodness.{good-interface}
 use Rattle.host_cases.proofs.first_interface.Goals as goal
 
 pub returns : goal.returns
-returns c = good-interface 1 (omega arith) (omega arith)
+unfolding set_up_outcome
+returns c = rw c.set_up.ensures.1 (good-interface 1 (omega arith) (omega arith))
