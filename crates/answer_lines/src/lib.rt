@@ -4,10 +4,11 @@
 ghost use Rattle.std.specs.Prelude.{◌≡◌, ◌++◌, ◌+◌, ◌≤◌};
 ghost use Rattle.octets.specs.Prelude.{length};
 ghost use Rattle.toeplitz.specs.Hash.{hash_outcome_of};
-ghost use Rattle.toeplitz.specs.TwoWay.{type_number, two_way_outcome, two_way_outcome_of};
+ghost use Rattle.toeplitz.specs.TwoWay.{two_way_outcome_of};
 ghost use Rattle.text.specs.Text.{capacity, longest_line, longest_type_line, Adds, Prints};
 ghost use Rattle.text.specs.Lines.{hash_line, verdict_line, hash_text, two_way_text};
 
+use directions::two_way;
 use text::Text;
 use toeplitz::{HashRefusal, HashType, KEY_LENGTH, TwoWayRefusal};
 
@@ -30,18 +31,11 @@ pub fn two_way_text(key: &[u8]) -> Text
         text.push_refusal_line(u32::from(TwoWayRefusal::KeyLength));
         return text;
     }
-    push_type_line(&mut text, b"ipv4 ", two_way(key, HashType::Ipv4));
-    push_type_line(&mut text, b"ipv4_tcp ", two_way(key, HashType::Ipv4Tcp));
-    push_type_line(&mut text, b"ipv6 ", two_way(key, HashType::Ipv6));
-    push_type_line(&mut text, b"ipv6_tcp ", two_way(key, HashType::Ipv6Tcp));
+    push_type_line(&mut text, b"ipv4 ", two_way(key, HashType::Ipv4.into()));
+    push_type_line(&mut text, b"ipv4_tcp ", two_way(key, HashType::Ipv4Tcp.into()));
+    push_type_line(&mut text, b"ipv6 ", two_way(key, HashType::Ipv6.into()));
+    push_type_line(&mut text, b"ipv6_tcp ", two_way(key, HashType::Ipv6Tcp.into()));
     text
-}
-
-// The question takes its type by number, as C asks it.
-fn two_way(key: &[u8], hash_type: HashType) -> Result<Option<usize>, TwoWayRefusal>
-    ensures { two_way_outcome_of result ≡ two_way_outcome key.now (type_number hash_type) }
-{
-    directions::two_way(key, u32::from(u8::from(hash_type)))
 }
 
 // The line of one answer.

@@ -15,7 +15,7 @@ pub fn print_steered(steered: Steered) {
         } => {
             print_form(
                 b"type # hash $ queue #\n",
-                &[u64::from(u8::from(hash_type)), hash as u64, queue as u64],
+                &[u64::from(u32::from(hash_type)), hash as u64, queue as u64],
             )
         }
     }

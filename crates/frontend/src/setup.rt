@@ -12,12 +12,8 @@ pub fn set_up(guest: &mut Guest)
 {
     *guest = Guest {
         phase: IDLE,
-        outgoing: Sending {
-            length: 0,
-            written: 0,
-            prod: 0,
-        },
-        incoming: Receiving { taken: 0, cons: 0 },
+        outgoing: Sending::default(),
+        incoming: Receiving::default(),
         request: [0; MAX_REQUEST],
         header: [0; HEADER],
         payload: [0; MAX_ACK_PAYLOAD],

@@ -37,11 +37,8 @@ pub fn event(i: &mut Interface, page: &mut [u8], body: &[u8])
     ensures { Good (state_of i.new) }
 {
     let n = cases::number_up_to(page.len(), body);
-    let answer = match backend::event(i, &mut page[0..n]) {
-        Ok(progress) => u32::from(progress),
-        Err(refusal) => u32::from(refusal),
-    };
-    print_number(b"answer ", answer as u64);
+    let answer = backend::event(i, &mut page[0..n]);
+    print_number(b"answer ", answer.map_or_else(u32::from, u32::from) as u64);
     print_left(i, &page[..]);
 }
 

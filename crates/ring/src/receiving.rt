@@ -17,7 +17,7 @@ const HEADER_OCTETS: u64 = HEADER as u64;
 // C reads the fields, so they are its numbers; header and payload stand elsewhere in its struct. What holds of them is asked in
 // clauses, as for `Sending`.
 #[repr(C)]
-#[derive(Clone, Copy)]
+#[derive(Clone, Copy, Default)]
 pub struct Receiving {
     pub taken: u64,
     pub cons: u64,

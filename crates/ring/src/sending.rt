@@ -8,7 +8,7 @@ ghost use Rattle.ring.specs.Writing.{sent, sent_octets, fitting, outgoing_in};
 // count as on the page. C reads the fields, so they are its numbers; the octets stand elsewhere in its struct. What holds of them is
 // asked in clauses and is no invariant of the type, since C lends a setup a struct with any numbers in it.
 #[repr(C)]
-#[derive(Clone, Copy)]
+#[derive(Clone, Copy, Default)]
 pub struct Sending {
     pub length: u64,
     pub written: u64,

@@ -85,7 +85,7 @@ fn unhashed() -> Steered
 fn is_set(flags: u8, hash_type: HashType) -> bool
     ensures { result ≡ is_set flags (type_number hash_type) }
 {
-    (flags >> u8::from(hash_type)) % 2 == 1
+    (flags >> u32::from(hash_type)) % 2 == 1
 }
 
 // The answer for a type with this input.

@@ -62,10 +62,10 @@ impl HashType {
 }
 
 // The number of each type, and the type with a number.
-impl From<HashType> for u8 {
+impl From<HashType> for u32 {
     ghost from_gives = { λ t n. n ≡ type_number t };
 
-    fn from(hash_type: HashType) -> u8 {
+    fn from(hash_type: HashType) -> u32 {
         match hash_type {
             HashType::Ipv4 => 0,
             HashType::Ipv4Tcp => 1,

@@ -30,10 +30,7 @@ pub extern "C" fn zwerfen_event(interface: &mut Interface, page: &mut [u8]) -> u
         ≡ event_of (state_of interface.old) page.old)
         × Good (state_of interface.new) }
 {
-    match backend::event(interface, page) {
-        Ok(progress) => progress.into(),
-        Err(refusal) => refusal.into(),
-    }
+    backend::event(interface, page).map_or_else(u32::from, u32::from)
 }
 
 // Type, hash and queue of a packet under the settings of the interface.
