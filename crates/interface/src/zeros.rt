@@ -1,4 +1,4 @@
-// An interface of zeros: what setup begins from, and what a caller lends it that has none from C.
+// An interface of zeros: what setup begins from, and what a caller that has no struct of C's lends it.
 ghost use Rattle.std.specs.Prelude.{◌≡◌};
 ghost use Rattle.interface.specs.States.{state_of, interface_of_zeros};
 

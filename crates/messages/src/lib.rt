@@ -52,8 +52,8 @@ pub const MAX_PAYLOAD: usize = 1024;
 
 pub const MAX_ACK: usize = 24;
 
-// A mapping table: the queue of each entry. Octets of the array behind the table are 0. C's struct has array and count side by side,
-// so they are so here and in an ack, which go into it as they are.
+// A mapping table: the queue of each entry. Octets of the array behind the table are 0. C's struct has a fixed array and its count,
+// so it is so here and in an ack, and the definitions give both at once.
 #[derive(Drop)]
 pub struct Mapping {
     pub entries: [u8; MAX_ENTRIES],

@@ -8,8 +8,8 @@ ghost use Rattle.octets.specs.Numbers.{number_at, octets_of};
 // Octets of a word.
 const WORD: usize = 8;
 
-// Copies src over dst, which is as long: a word at a time as far as that goes, and the rest octet by octet. The library's
-// `copy_from_slice` becomes a call of memmove, and a C host is to give memcpy and memset alone.
+// Copies src over dst, which is as long: a word at a time as far as that goes, and the rest octet by octet. Where the compiler does
+// not know the length, the library's `copy_from_slice` becomes a call of memmove, and a C host is to give memcpy and memset alone.
 pub fn copy(dst: &mut [u8], src: &[u8])
     requires { length src.now ≡ length dst.old }
     ensures { dst.new ≡ src.now }
@@ -42,7 +42,7 @@ fn copy_rest(dst: &mut [u8], src: &[u8], from: usize)
 }
 
 // The number in the four octets from `at` on. Four octets and eight have two functions, as they have in the library: one over
-// both would be a trait with these same two bodies.
+// both, which are two types, would be a trait with these same two bodies.
 pub fn read_u32(octets: &[u8], at: usize) -> u32
     requires { at + 4 ≤ length octets.now }
     ensures { result ≡ number_at 4 octets.now at }
