@@ -2,8 +2,9 @@
 // files. A case is its kind, an octet, the length of its body, two octets, and the body.
 #![tactic(auto)]
 
-ghost use Rattle.std.specs.Prelude.{◌≡◌, ◌+◌, ◌≤◌, ◌<◌};
+ghost use Rattle.std.specs.Prelude.{◌≡◌, ◌+◌, ◌≤◌, ◌<◌, SomeIff};
 ghost use Rattle.octets.specs.Prelude.{length, []};
+ghost use Rattle.octets.specs.Numbers.{number_at};
 ghost use Rattle.io.specs.Counts.{IsPrefixLen};
 
 use arrayvec::ArrayVec;
@@ -102,25 +103,36 @@ pub fn print_cut() {
 }
 
 // The number in the two octets from `at` on, the lowest first.
+#[tactic(auto, unfolding(octets::specs::Numbers::number_at))]
 pub fn number_at(octets: &[u8], at: usize) -> usize
     requires { at + 2 ≤ length octets.now }
-    ensures { result < 65536 }
+    ensures { (result ≡ number_at 2 octets.now at) × (result < 65536) }
 {
     usize::from(u16::from_le_bytes([octets[at], octets[at + 1]]))
+}
+
+// The number at the start of a body, where it is at most `most`; none where it is cut short or too high.
+pub fn number_within(most: usize, body: &[u8]) -> Option<usize>
+    ensures { SomeIff result ((2 ≤ length body.now) × (number_at 2 body.now 0 ≤ most)) (number_at 2 body.now 0) }
+{
+    if body.len() < 2 {
+        return None;
+    }
+    let n = number_at(body, 0);
+    (n <= most).then_some(n)
 }
 
 // The number at the start of a body, where it is at most `most`. One that is cut short or too high is told, and counts as 0.
 pub fn number_up_to(most: usize, body: &[u8]) -> usize
     ensures { result ≤ most }
 {
-    if body.len() >= 2 {
-        let n = number_at(body, 0);
-        if n <= most {
-            return n;
+    match number_within(most, body) {
+        Some(n) => n,
+        None => {
+            print_cut();
+            0
         }
     }
-    print_cut();
-    0
 }
 
 // Copies the body of a case to the start of the buffer, and answers how many octets it has; none where it does not fit.

@@ -1,8 +1,6 @@
 // The guest's part in the cases, and the lines that it prints.
 #![tactic(auto)]
 
-ghost use Rattle.std.specs.Prelude.{◌≡◌, ◌≤◌};
-ghost use Rattle.octets.specs.Prelude.{length};
 ghost use Rattle.guest_steps.specs.Guest.{Good, state_of};
 
 use case_tools::{BUFFER, print_number, print_word};
@@ -71,7 +69,8 @@ fn call_on(guest: &mut Guest, page: &mut [u8], kind: u8, given: &[u8])
         START_SET_FLAGS => start(guest, page, Ask::SetFlags(flags_in(given))),
         START_SET_KEY => start(guest, page, Ask::SetKey(given)),
         _ => {
-            let count = count_in(given);
+            // A number of entries that is cut short or too high counts as none.
+            let count = cases::number_within(case_tools::MAX_GIVEN, given).unwrap_or(0);
             let entries = case_tools::entries_in(given, 2, count);
             start(guest, page, Ask::SetMapping(&entries[..count]));
         }
@@ -92,20 +91,6 @@ fn flags_in(given: &[u8]) -> u64 {
         return 0;
     }
     octets::read_u64(given, 0)
-}
-
-// How many entries a mapping has; none where their number is cut short or too high.
-fn count_in(given: &[u8]) -> usize
-    ensures { result ≤ 256 }
-{
-    if given.len() < 2 {
-        return 0;
-    }
-    let count = cases::number_at(given, 0);
-    if count > case_tools::MAX_GIVEN {
-        return 0;
-    }
-    count
 }
 
 // The number of an event's answer, and what the ack says where it is here.

@@ -29,16 +29,15 @@ fn run(cases: &[u8]) {
 
 // The two parts of a case.
 fn split(case: Case) {
-    if case.body.len() < 1 {
+    let Some((length, parts)) = case.body.split_first() else {
         print_cut();
         return;
-    }
-    let second = 1 + usize::from(case.body[0]);
-    if case.body.len() < second {
+    };
+    let Some((first, second)) = parts.split_at_checked(usize::from(*length)) else {
         print_cut();
         return;
-    }
-    print_answer(case.kind, &case.body[1..second], &case.body[second..]);
+    };
+    print_answer(case.kind, first, second);
 }
 
 fn print_answer(kind: u8, first: &[u8], second: &[u8]) {
