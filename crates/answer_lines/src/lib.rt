@@ -32,9 +32,17 @@ pub fn two_way_text(key: &[u8]) -> Text
         return text;
     }
     push_type_line(&mut text, b"ipv4 ", two_way(key, HashType::Ipv4.into()));
-    push_type_line(&mut text, b"ipv4_tcp ", two_way(key, HashType::Ipv4Tcp.into()));
+    push_type_line(
+        &mut text,
+        b"ipv4_tcp ",
+        two_way(key, HashType::Ipv4Tcp.into()),
+    );
     push_type_line(&mut text, b"ipv6 ", two_way(key, HashType::Ipv6.into()));
-    push_type_line(&mut text, b"ipv6_tcp ", two_way(key, HashType::Ipv6Tcp.into()));
+    push_type_line(
+        &mut text,
+        b"ipv6_tcp ",
+        two_way(key, HashType::Ipv6Tcp.into()),
+    );
     text
 }
 
