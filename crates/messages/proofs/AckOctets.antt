@@ -19,7 +19,7 @@ unfolding message header octets_of
 status-stored status h = ap ack_stored (sym (octets-small 7 status h))
 
 -- an ack with another size, and flags behind its status
-abbrev flags_behind : Ack → ℕ → Ack
+abbrev pub flags_behind : Ack → ℕ → Ack
 flags_behind ack flags = record { octets = set (set ack.octets 4 16) 16 flags; length = ack.length + 8 }
 
 pub flags-stored : (flags : ℕ) → flags < 256 → flags_behind (ack_stored (status_payload success)) flags ≡ ack_stored (flags_payload flags)

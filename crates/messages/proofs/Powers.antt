@@ -1,5 +1,6 @@
 -- Powers of two: `is_power_of_two` means what it says, and is told by the number of bits set; and the listed lengths.
-use Rattle.octets.specs.Prelude.{◌≡◌, refl, sym, ap, ◌∙◌, ◌↔◌, Bool, true, false, false≢true, ℕ, zero, suc, ◌*◌, ◌/◌, ◌%◌, ◌^◌, ◌≤◌, ◌<◌, pow-suc}
+use Rattle.octets.specs.Prelude.{◌≡◌, refl, sym, ap, ◌∙◌, ◌↔◌, Bool, true, false, false≢true, ℕ, zero, suc}
+use Rattle.octets.specs.Prelude.{◌*◌, ◌/◌, ◌%◌, ◌^◌, ◌≤◌, ◌<◌, pow-suc}
 use Rattle.octets.specs.Prelude.{arith, eqb, leb, eq-eqb, eqb-true, eqb-false, le-leb, lt-leb, leb-true, ℕ_discrete, dec_lt}
 use mathlib.Core.Bool.{and-true, and-false}
 use lib.Arith.{bin_ind, lt_of_le-ne}
