@@ -1,9 +1,12 @@
--- Powers of two: `is_power_of_two` means what it says, and is told by the number of bits set; and the listed lengths.
+-- Powers of two: `is_power_of_two` means what it says, and is told by n AND (n - 1), and by the number of bits set; and the listed
+-- lengths.
 use Rattle.octets.specs.Prelude.{◌≡◌, refl, sym, ap, ◌∙◌, ◌↔◌, Bool, true, false, false≢true, ℕ, zero, suc}
-use Rattle.octets.specs.Prelude.{◌*◌, ◌/◌, ◌%◌, ◌^◌, ◌≤◌, ◌<◌, pow-suc}
-use Rattle.octets.specs.Prelude.{arith, eqb, leb, eq-eqb, eqb-true, eqb-false, le-leb, lt-leb, leb-true, ℕ_discrete, dec_lt}
+use Rattle.octets.specs.Prelude.{◌-◌, ◌*◌, ◌/◌, ◌%◌, ◌^◌, ◌≤◌, ◌<◌, pow-suc}
+use Rattle.octets.specs.Prelude.{arith, bit_and, eqb, leb, eq-eqb, eqb-true, eqb-false, le-leb, lt-leb, leb-true, ℕ_discrete, dec_lt}
 use mathlib.Core.Bool.{and-true, and-false}
 use lib.Arith.{bin_ind, lt_of_le-ne}
+use native.Mathlib.Nat.{mod_self}
+use lib.Bits.{and_mask, and_step, and_self}
 use lib.Count.{ones, ones_step}
 use Rattle.std.specs.Prelude.{count_ones}
 use Rattle.std.proofs.lemmas.Nat.{zero_from_ones, ones_le_self}
@@ -38,6 +41,32 @@ pub power-exactly : (n : ℕ) → (is_power_of_two n ≡ true) ↔ IsPower n
 unfolding is_power_of_two
 power-exactly n = (below_power n n, λ p. power_below n n p.0 (rw p.1 (exponent-less p.0)) p.1)
 
+power-and : (n : ℕ) → IsPower n → bit_and n (n - 1) ≡ 0
+power-and n (k, e) = rw (e, and_mask (2 ^ k) k) (mod_self (2 ^ k))
+
+-- n AND (n - 1) for an even n is that of its half, doubled; for an odd n it is n - 1
+and-half : (n : ℕ) → (0 < n / 2 → bit_and (n / 2) (n / 2 - 1) ≡ 0 → IsPower (n / 2)) → 0 < n → bit_and n (n - 1) ≡ 0 → IsPower n
+and-half n half l e =
+    let top : bit_and (n / 2) ((n - 1) / 2) ≡ 0 = omega (arith, and_step n (n - 1)) in
+    elim (ℕ_discrete (n % 2) 0) [
+      | yes even ↦
+          let less : (n - 1) / 2 ≡ n / 2 - 1 = omega arith in
+          double even (half (omega arith) (rw less at top))
+      | no odd ↦
+          let same : (n - 1) / 2 ≡ n / 2 = omega arith in
+          let none : n / 2 ≡ 0 = sym (and_self (n / 2)) ∙ rw same at top in
+          (0, omega arith)
+    ]
+  where
+    double : n % 2 ≡ 0 → IsPower (n / 2) → IsPower n
+    double even (k, q) = (suc k, rw pow-suc (omega arith))
+
+and-power : (n : ℕ) → 0 < n → bit_and n (n - 1) ≡ 0 → IsPower n
+and-power = bin_ind (λ (n : ℕ). 0 < n → bit_and n (n - 1) ≡ 0 → IsPower n) (λ l. absurd (omega arith)) and-half
+
+pub power-told : (n : ℕ) → 0 < n → eqb (bit_and n (n - 1)) 0 ≡ is_power_of_two n
+power-told n l = same_truth _ _ (λ h. (power-exactly n).1 (and-power n l (eqb-true _ _ h))) (λ h. eq-eqb _ _ (power-and n ((power-exactly n).0 h)))
+
 -- a power of two has one bit, and a number of one bit is a power: its half is one, or it is 1
 power_one : (k : ℕ) → count_ones (2 ^ k) ≡ 1
 unfolding ones
@@ -60,8 +89,8 @@ one-half n half e =
 one-power : (n : ℕ) → count_ones n ≡ 1 → IsPower n
 one-power = bin_ind (λ (n : ℕ). count_ones n ≡ 1 → IsPower n) (λ e. absurd (omega (arith, ones_le_self 0))) one-half
 
-pub power-told : (n : ℕ) → eqb (count_ones n) 1 ≡ is_power_of_two n
-power-told n =
+pub one-bit-told : (n : ℕ) → eqb (count_ones n) 1 ≡ is_power_of_two n
+one-bit-told n =
     same_truth _ _ (λ h. (power-exactly n).1 (one-power n (eqb-true _ _ h)))
     (λ h. let p = (power-exactly n).0 h in eq-eqb _ _ (rw p.1 (power_one p.0)))
 
