@@ -44,6 +44,10 @@ power-exactly n = (below_power n n, λ p. power_below n n p.0 (rw p.1 (exponent-
 power-and : (n : ℕ) → IsPower n → bit_and n (n - 1) ≡ 0
 power-and n (k, e) = rw (e, and_mask (2 ^ k) k) (mod_self (2 ^ k))
 
+-- an even number whose half is a power of two is one
+double-power : (n : ℕ) → n % 2 ≡ 0 → IsPower (n / 2) → IsPower n
+double-power n even (k, q) = (suc k, rw pow-suc (omega arith))
+
 -- n AND (n - 1) for an even n is that of its half, doubled; for an odd n it is n - 1
 and-half : (n : ℕ) → (0 < n / 2 → bit_and (n / 2) (n / 2 - 1) ≡ 0 → IsPower (n / 2)) → 0 < n → bit_and n (n - 1) ≡ 0 → IsPower n
 and-half n half l e =
@@ -51,15 +55,12 @@ and-half n half l e =
     elim (ℕ_discrete (n % 2) 0) [
       | yes even ↦
           let less : (n - 1) / 2 ≡ n / 2 - 1 = omega arith in
-          double even (half (omega arith) (rw less at top))
+          double-power n even (half (omega arith) (rw less at top))
       | no odd ↦
           let same : (n - 1) / 2 ≡ n / 2 = omega arith in
           let none : n / 2 ≡ 0 = sym (and_self (n / 2)) ∙ rw same at top in
           (0, omega arith)
     ]
-  where
-    double : n % 2 ≡ 0 → IsPower (n / 2) → IsPower n
-    double even (k, q) = (suc k, rw pow-suc (omega arith))
 
 and-power : (n : ℕ) → 0 < n → bit_and n (n - 1) ≡ 0 → IsPower n
 and-power = bin_ind (λ (n : ℕ). 0 < n → bit_and n (n - 1) ≡ 0 → IsPower n) (λ l. absurd (omega arith)) and-half
@@ -79,12 +80,9 @@ one-half : (n : ℕ) → (count_ones (n / 2) ≡ 1 → IsPower (n / 2)) → coun
 one-half n half e =
     let step = ones_step n in
     elim (ℕ_discrete (n % 2) 0) [
-      | yes even ↦ double even (half (omega arith))
+      | yes even ↦ double-power n even (half (omega arith))
       | no odd ↦ let none : n / 2 ≡ 0 = zero_from_ones (n / 2) (omega arith) in (0, omega arith)
     ]
-  where
-    double : n % 2 ≡ 0 → IsPower (n / 2) → IsPower n
-    double even (k, q) = (suc k, rw pow-suc (omega arith))
 
 one-power : (n : ℕ) → count_ones n ≡ 1 → IsPower n
 one-power = bin_ind (λ (n : ℕ). count_ones n ≡ 1 → IsPower n) (λ e. absurd (omega (arith, ones_le_self 0))) one-half
