@@ -5,6 +5,7 @@
 ghost use Rattle.std.specs.Prelude.{◌≡◌, ◌+◌, ◌≤◌, ◌<◌, SomeIff};
 ghost use Rattle.octets.specs.Prelude.{length, []};
 ghost use Rattle.octets.specs.Numbers.{number_at};
+ghost use Rattle.cases.specs.Taking.{body_in, behind_case};
 ghost use Rattle.io.specs.Counts.{IsPrefixLen};
 
 use arrayvec::ArrayVec;
@@ -71,7 +72,9 @@ pub fn load_part<R: Files>(rt: &R, part: u8, buffer: &mut [u8]) -> usize
 // nothing stands behind it.
 fn take_case<'a>(cases: &'a [u8]) -> (Case<'a>, &'a [u8])
     requires { 0 < length cases.now }
-    ensures { length result.1.now < length cases.now }
+    ensures body { result.0.body.now ≡ body_in cases.now }
+    ensures behind { result.1.now ≡ behind_case cases.now }
+    ensures fewer { length result.1.now < length cases.now }
 {
     let Some((head, rest)) = cases.split_first_chunk::<HEAD>() else {
         return cut_case();
@@ -85,7 +88,7 @@ fn take_case<'a>(cases: &'a [u8]) -> (Case<'a>, &'a [u8])
 
 // A case cut short by the end of its file, behind which nothing stands.
 fn cut_case<'a>() -> (Case<'a>, &'a [u8])
-    ensures { length result.1.now ≡ 0 }
+    ensures { (result.0.body.now ≡ []) × (result.1.now ≡ []) }
 {
     print_cut();
     (

@@ -1,0 +1,2 @@
+-- The laws of `cases`.
+pub mod Parts
