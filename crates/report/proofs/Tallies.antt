@@ -1,4 +1,7 @@
 -- Laws of what is counted: record by record, and queue by queue.
+use Rattle.std.specs.Prelude.{slice_index_or, slice_set}
+use Rattle.std.proofs.Math.Seq.{take-set-lt}
+use Rattle.octets.specs.Prelude.{length-take, get_or-take, take}
 use Rattle.octets.specs.Prelude.{◌≡◌, refl, ◌∙◌, ap₂, List, [], ◌∷◌, Bool, true, false, cond, ℕ, zero, suc, ◌+◌, ◌≤◌, ◌<◌, arith, length, get_or}
 use Rattle.capture.specs.Records.{captured_octets}
 use Rattle.report.specs.Counting.{those, rising}
@@ -54,3 +57,12 @@ pub blank : (t : Tally) → (t.packets ≡ 0) × (t.octets ≡ 0) → t ≡ noth
 blank t e =
     let same : t ≡ record { packets = t.packets; octets = t.octets } = refl in
     same ∙ rw (e.0, e.1) refl
+
+-- of the tallies in operation one replaced, and one looked at
+pub kept_set : (n q : ℕ) (tallies : List Tally) (t : Tally) → q < length (take n tallies)
+    → take n (slice_set tallies q t) ≡ slice_set (take n tallies) q t
+kept_set n q tallies t inside = take-set-lt n tallies q t (omega (arith, inside, length-take n tallies))
+
+pub kept_index : (n q : ℕ) (tallies : List Tally) → q < length (take n tallies)
+    → slice_index_or (take n tallies) q nothing ≡ slice_index_or tallies q nothing
+kept_index n q tallies inside = get_or-take n tallies q nothing (omega (arith, inside, length-take n tallies))

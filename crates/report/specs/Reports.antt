@@ -1,6 +1,6 @@
 -- The report on a settings file and a capture.
 use Rattle.std.specs.Prelude.{◌&&◌, Result, Ok, Err}
-use Rattle.octets.specs.Prelude.{List, cond, ℕ, length, leb}
+use Rattle.octets.specs.Prelude.{List, cond, ℕ, length, take, leb}
 use Rattle.octets.specs.Outcome.{Outcome, value, refused, and_then}
 use Rattle.messages.specs.Settings.{Settings}
 use Rattle.capture.specs.Header.{header_wrong, header_outcome}
@@ -40,9 +40,9 @@ report_refusal_number (SettingsRefused e) = settings_refusal_number e
 report_refusal_number (Header e) = header_wrong
 report_refusal_number (Record e) = record_wrong
 
--- what counts stand for, and what an answer says
+-- what counts stand for: the tallies of the queues in operation; and what an answer says
 abbrev pub counted_of : Counts → Counted
-counted_of c = record { queues = c.queues.items; unhashed = c.unhashed; total = c.total }
+counted_of c = record { queues = take c.count c.queues; unhashed = c.unhashed; total = c.total }
 
 abbrev pub report_of : Result Counts ReportRefusal → Outcome Counted
 report_of (Ok counts) = value (counted_of counts)

@@ -6,28 +6,29 @@ ghost use Rattle.report.specs.Reports.{counted_of};
 ghost use Rattle.report.specs.Inner.{HasRoom, nothing_on, with_packet, tally_with};
 
 use crate::{Counts, MAX_QUEUES, Tally};
-use arrayvec::ArrayVec;
 use steering::Steered;
 
 impl Counts {
     // Nothing counted, on so many queues.
     pub(crate) fn none(queues: usize) -> Self
         requires { queues ≤ max_queues }
-        ensures { counted_of result ≡ nothing_on queues }
+        ensures counted { counted_of result ≡ nothing_on queues }
+        ensures count { result.count ≡ queues }
     {
-        let mut tallies = ArrayVec::from([Tally::default(); MAX_QUEUES]);
-        tallies.truncate(queues);
         Counts {
-            queues: tallies,
+            count: queues,
+            queues: [Tally::default(); MAX_QUEUES],
             unhashed: 0,
             total: Tally::default(),
         }
     }
 
     // One packet more, of so many octets, under its choice.
+    #[tactic(auto, using(crate::proofs::Tallies::kept_set, crate::proofs::Tallies::kept_index))]
     pub(crate) fn add(&mut self, choice: Steered, octets: u32)
         requires { HasRoom (choice_of choice) octets (counted_of self.old) }
-        ensures { counted_of self.new ≡ with_packet (choice_of choice) octets (counted_of self.old) }
+        ensures counted { counted_of self.new ≡ with_packet (choice_of choice) octets (counted_of self.old) }
+        ensures count { self.new.count ≡ self.old.count }
     {
         let queue = match choice {
             Steered::NoType { queue } => {

@@ -10,7 +10,6 @@ ghost use Rattle.report.specs.Reports.{max_file, report_over, report_on, report_
 mod counting;
 mod refusals;
 
-use arrayvec::ArrayVec;
 use capture::{HeaderWrong, Link, Reader, RecordWrong};
 use interface::Interface;
 use settings_file::SettingsRefusal;
@@ -27,11 +26,12 @@ pub struct Tally {
     pub octets: u32,
 }
 
-// A tally for each queue in operation; how many packets have no hash, which are counted on queue 0 too; and the total. It is no
-// `Copy`: an `ArrayVec` is none.
-#[derive(Debug, Drop)]
+// A tally for each queue, of which the first `count` are in operation; how many packets have no hash, which are counted on queue 0
+// too; and the total. The tallies are an array with its count, since counts are copied and an `ArrayVec` is not.
+#[derive(Clone, Copy, Debug)]
 pub struct Counts {
-    pub queues: ArrayVec<Tally, MAX_QUEUES>,
+    pub count: usize,
+    pub queues: [Tally; MAX_QUEUES],
     pub unhashed: u32,
     pub total: Tally,
 }
@@ -50,7 +50,7 @@ pub enum ReportRefusal {
 #[tactic(auto, unfolding(crate::specs::Reports::report_on))]
 pub fn report_on(settings: &[u8], captured: &[u8]) -> Result<Counts, ReportRefusal>
     ensures counts { report_of result ≡ report_on settings.now captured.now }
-    ensures queues { IfOk result (λ c. length c.queues.items ≤ max_queues) }
+    ensures queues { IfOk result (λ c. c.count ≤ max_queues) }
 {
     if settings.len().max(captured.len()) > MAX_FILE {
         return Err(ReportRefusal::FileTooLong);
@@ -68,7 +68,7 @@ fn count_records(
 ) -> Result<Counts, ReportRefusal>
     requires { Good (settings_in interface.now) × (length captured.now ≤ max_file) }
     ensures counts { report_of result ≡ report_over (settings_in interface.now) link captured.now }
-    ensures queues { IfOk result (λ c. length c.queues.items ≤ max_queues) }
+    ensures queues { IfOk result (λ c. c.count ≤ max_queues) }
 {
     let mut counts = Counts::none(interface.queues as usize);
     for record in Reader::open(captured) {

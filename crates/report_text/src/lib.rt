@@ -27,10 +27,10 @@ pub fn report_text(settings: &[u8], captured: &[u8]) -> Text
 // A line for each queue, one for the packets without a hash, and the total.
 #[tactic(auto, unfolding(crate::specs::ReportLines::counted_lines))]
 fn push_counts(text: &mut Text, counts: &Counts)
-    requires { (length counts.now.queues.items ≤ max_queues) × (length text.old + longest_report ≤ capacity) }
+    requires { (counts.now.count ≤ max_queues) × (length text.old + longest_report ≤ capacity) }
     ensures { Adds text.old (counted_lines (counted_of counts.now)) text.new }
 {
-    push_queues(text, &counts.queues);
+    push_queues(text, &counts.queues[..counts.count]);
     text.push_number_line(b"unhashed ", u64::from(counts.unhashed));
     text.push_octets(b"total ");
     push_tally(text, counts.total);

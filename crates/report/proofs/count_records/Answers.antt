@@ -3,6 +3,7 @@
 use Rattle.std.proofs.lemmas.Result.{err_from_is_err_and}
 use Rattle.interface.specs.States.{settings_in}
 use Rattle.report.proofs.Readings.{found, room, counted, refused-here, counted-all}
+use Rattle.octets.specs.Prelude.{◌∙◌}
 use Rattle.report.proofs.count_records.Goals as goal
 
 pub slice_bounds-frame-count : goal.slice_bounds-frame-count
@@ -34,7 +35,8 @@ loop-record-preserved c =
       can_next = tt;
       ends = tt;
       same = rw c.in-Some.ensures.steps.same c.loop-record.invariant.same;
-      counting = rw (c.add.ensures, c.steer-choice.ensures, c.ip_part.ensures) next;
+      count = c.add.ensures.count ∙ c.loop-record.invariant.count;
+      counting = rw (c.add.ensures.counted, c.steer-choice.ensures, c.ip_part.ensures) next;
     }
 
 pub returns-in_err-record-clause-counts : goal.returns-in_err-record-clause-counts

@@ -13,6 +13,7 @@ invariant-loop-record l = record {
   can_next : (goal.iterator-loop-record).can_next l.record-iterator;
   ends : (goal.iterator-loop-record).is_finite l.record-iterator;
   same : l.record-iterator.capture.now ≡ l.captured;
+  count : l.counts.count ≡ l.interface.queues;
   counting : Counting (settings_in l.interface) l.link (fall_of (order_of l.captured) (drop capture_header l.captured))
       (fall_of (order_of l.captured) (drop l.record-iterator.at l.captured)) (counted_of l.counts);
 }

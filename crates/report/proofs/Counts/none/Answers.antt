@@ -5,7 +5,7 @@ use Rattle.report.specs.Inner.{nothing}
 use Rattle.report.proofs.Tallies.{blank}
 use Rattle.report.proofs.Counts.none.Goals as goal
 
-pub returns : goal.returns
-returns c =
+pub returns-clause-counted : goal.returns-clause-counted
+returns-clause-counted c =
     let alike = take-replicate c.args.queues 64 nothing c.requires in
-    rw (c.truncate.ensures.items, c.from-tallies.ensures.0, blank _ c.default.ensures, blank _ c.default-2.ensures, alike) refl
+    rw (blank _ c.default.ensures, blank _ c.default-2.ensures, alike) refl
