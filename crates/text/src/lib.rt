@@ -39,8 +39,15 @@ impl Text {
         }
     }
 
+    // The octets of the text.
+    pub fn as_slice(&self) -> &[u8]
+        ensures { result.now ≡ self.now }
+    {
+        self.octets.as_slice()
+    }
+
     // Writes the text to standard output.
     pub fn print(&self) -> bool {
-        io::write_all(STDOUT, self.octets.as_slice())
+        io::write_all(STDOUT, self.as_slice())
     }
 }
