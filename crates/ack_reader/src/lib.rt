@@ -21,21 +21,24 @@ pub fn read_ack(kind: u32, message: &[u8]) -> Result<AckRead, NotAnAck>
         return Err(NotAnAck);
     }
     let size = octets::read_u32(message, SIZE_AT) as usize;
+    if message.len() - HEADER != size {
+        return Err(NotAnAck);
+    }
     let status = octets::read_u64(message, HEADER);
-    if message.len() - HEADER != size
-        || !is_allowed(kind, status)
-        || size != ack_size(kind, status)
-    {
+    if carries_flags(kind, status) {
+        if size != FIELD + FIELD {
+            return Err(NotAnAck);
+        }
+        let flags = octets::read_u64(message, HEADER + FIELD);
+        if flags > ALL_FLAGS as u64 {
+            return Err(NotAnAck);
+        }
+        return Ok(AckRead::Flags(flags as u8));
+    }
+    if size != FIELD || !is_allowed(kind, status) {
         return Err(NotAnAck);
     }
-    if !carries_flags(kind, status) {
-        return Ok(AckRead::Status(status as u8));
-    }
-    let flags = octets::read_u64(message, HEADER + FIELD);
-    if flags > ALL_FLAGS as u64 {
-        return Err(NotAnAck);
-    }
-    Ok(AckRead::Flags(flags as u8))
+    Ok(AckRead::Status(status as u8))
 }
 
 // Whether a request of this type can get this status.
@@ -46,17 +49,6 @@ fn is_allowed(kind: u32, status: u64) -> bool
     match RequestType::try_from(kind) {
         Ok(_) => status <= BUFFER_OVERFLOW as u64,
         Err(_) => status == NOT_SUPPORTED as u64,
-    }
-}
-
-// The size of the ack with this status.
-fn ack_size(kind: u32, status: u64) -> usize
-    ensures { result ≡ ack_size (request_of kind) status }
-{
-    if carries_flags(kind, status) {
-        FIELD + FIELD
-    } else {
-        FIELD
     }
 }
 
