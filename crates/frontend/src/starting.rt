@@ -43,7 +43,9 @@ impl From<StartRefusal> for u32 {
     }
 }
 
-// Starts a request of the guest on its page.
+// Starts a request of the guest on its page. It is written out where it is called, so that an exported start has what is asked for
+// in registers.
+#[inline(always)]
 #[tactic(auto, unfolding(guest_steps::specs::Calls::start_by, guest_steps::specs::Calls::started_by))]
 pub fn start(guest: &mut Guest, page: &mut [u8], ask: Ask) -> Result<Progress, StartRefusal>
     requires { Good (state_of guest.old) }

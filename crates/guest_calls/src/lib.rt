@@ -8,7 +8,8 @@ ghost use Rattle.guest_numbers.specs.Answers.{Leaves, status_of_told, flags_of_t
 
 use guest_steps::{Ask, Guest};
 
-// Starts a request of the guest on its page.
+// Starts a request of the guest on its page. It is written out where it is called, as that of `frontend`.
+#[inline(always)]
 pub fn start(guest: &mut Guest, page: &mut [u8], ask: Ask) -> u32
     requires { Good (state_of guest.old) }
     ensures { Leaves (start_of (message_of ask.entry) (state_of guest.old) page.old) result (state_of guest.new) page.new
