@@ -1,2 +1,3 @@
--- What the stages of an event did, as the definitions say it.
+-- What the stages of an event did, and how it is stored.
 pub mod Parts
+pub mod Stored
