@@ -1,2 +1,3 @@
--- What a call finds.
+-- What a call finds, and how a guest is stored.
+pub mod Stored
 pub mod Finds
