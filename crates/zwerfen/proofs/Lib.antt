@@ -1,2 +1,3 @@
--- What a reader wants of the exported calls.
+-- The parts of the structs that are lent.
+pub mod Parts
 pub mod Theorems
