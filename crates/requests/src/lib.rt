@@ -11,10 +11,10 @@ use interface::Interface;
 use messages::{ALL_FLAGS, Ack, Refusal, RequestType, SUCCESS};
 
 // Carries out the request that the interface holds, which is whole: its effect goes into the settings, its ack is owed, and the
-// next request begins. That the queue count fits in an octet is a clause, since C's struct has it in eight.
+// next request begins. It is safe for any queue count; the promise is for one that fits in an octet, since C's struct has it in
+// eight, and a table has one octet for each queue.
 pub fn carry_out(i: &mut Interface)
-    requires { i.old.queues < 2 ^ 8 }
-    ensures { state_of i.new ≡ carried_over (state_of i.old) }
+    ensures { i.old.queues < 2 ^ 8 → state_of i.new ≡ carried_over (state_of i.old) }
 {
     let kind = octets::read_u32(&i.header, 0);
     let size = octets::read_u32(&i.header, messages::SIZE_AT);
@@ -30,8 +30,8 @@ pub fn carry_out(i: &mut Interface)
 
 // Judges the request, and puts its effect into the settings if it passes. Its type is the header's number: any can stand there.
 fn judge(i: &mut Interface, kind: u32, size: u32) -> Result<(), Refusal>
-    requires { i.old.queues < 2 ^ 8 }
-    ensures settings_after { Leaves (request_of kind) (settings_in i.old) size i.old.payload (status_told result) (settings_in i.new) }
+    ensures settings_after { i.old.queues < 2 ^ 8
+        → Leaves (request_of kind) (settings_in i.old) size i.old.payload (status_told result) (settings_in i.new) }
     ensures ring_stays { ((state_of i.new).incoming ≡ (state_of i.old).incoming)
         × ((state_of i.new).outgoing ≡ (state_of i.old).outgoing) }
 {
@@ -40,7 +40,7 @@ fn judge(i: &mut Interface, kind: u32, size: u32) -> Result<(), Refusal>
         RequestType::SetFlags => judging::set_flags(&mut i.flags, size, &i.payload),
         RequestType::SetKey => judging::set_key(&mut i.key, size, &i.payload),
         RequestType::SetMapping => judging::set_mapping(
-            i.queues as u8,
+            (i.queues % 256) as u8,
             &mut i.entries,
             &mut i.entry_count,
             size,

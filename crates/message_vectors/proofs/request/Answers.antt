@@ -12,5 +12,5 @@ same-queues s = settings-either _ s.settings _ _ (λ (t : Settings). t.queues �
 
 pub returns : goal.returns
 returns c =
-    let same = ap (λ (s : HostState). s.settings.queues) c.carry_out.ensures ∙ same-queues _ in
+    let same = ap (λ (s : HostState). s.settings.queues) (c.carry_out.ensures c.requires.0) ∙ same-queues _ in
     omega (arith, same, c.requires.0)

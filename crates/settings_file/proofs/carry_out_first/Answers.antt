@@ -23,7 +23,7 @@ returns-then-read_u64-clause-good c =
     let split = c.in-Some-split_at_checked.ensures.cases in
     let kept = rw split.1 at c.keep.ensures in
     good-left xs _ rest _ parts.0 parts.1 c.read_u32-size.ensures _ (omega (arith, parts.2)) split.0 refl kept
-    c.requires.0 _ c.carry_out.ensures
+    c.requires.0 _ (c.carry_out.ensures (omega (arith, c.requires.0.queues)))
 
 pub returns-then-read_u64-clause-wrong : goal.returns-then-read_u64-clause-wrong
 returns-then-read_u64-clause-wrong c =
@@ -33,7 +33,7 @@ returns-then-read_u64-clause-wrong c =
     let split = c.in-Some-split_at_checked.ensures.cases in
     let kept = rw split.1 at c.keep.ensures in
     first-refused xs _ rest _ parts.0 parts.1 c.read_u32-size.ensures _ (omega (arith, parts.2)) split.0 refl kept
-    c.requires.0 _ c.carry_out.ensures (rw c.read_u64.ensures at c.if-read_u64.true)
+    c.requires.0 _ (c.carry_out.ensures (omega (arith, c.requires.0.queues))) (rw c.read_u64.ensures at c.if-read_u64.true)
 
 pub returns-clause-good : goal.returns-clause-good
 returns-clause-good c =
@@ -43,7 +43,7 @@ returns-clause-good c =
     let split = c.in-Some-split_at_checked.ensures.cases in
     let kept = rw split.1 at c.keep.ensures in
     good-left xs _ rest _ parts.0 parts.1 c.read_u32-size.ensures _ (omega (arith, parts.2)) split.0 refl kept
-    c.requires.0 _ c.carry_out.ensures
+    c.requires.0 _ (c.carry_out.ensures (omega (arith, c.requires.0.queues)))
 
 pub returns-clause-next : goal.returns-clause-next
 returns-clause-next c =
@@ -53,4 +53,4 @@ returns-clause-next c =
     let split = c.in-Some-split_at_checked.ensures.cases in
     let kept = rw split.1 at c.keep.ensures in
     rw split.2 (first-done xs _ rest _ parts.0 parts.1 c.read_u32-size.ensures _ (omega (arith, parts.2))
-    split.0 refl kept c.requires.0 _ c.carry_out.ensures (rw c.read_u64.ensures at c.if-read_u64.false))
+    split.0 refl kept c.requires.0 _ (c.carry_out.ensures (omega (arith, c.requires.0.queues))) (rw c.read_u64.ensures at c.if-read_u64.false))
