@@ -3,6 +3,8 @@ use Rattle.octets.specs.Prelude.{◌≡◌, refl, sym, ap, ap₂, ◌∙◌, Lis
 use Rattle.octets.specs.Prelude.{◌-◌, ◌*◌, ◌≤◌, ◌<◌, arith, length, get_or, drop, set, replicate, ltb, lt-ltb, ltb-true}
 use native.Mathlib.Nat.{zero-mul}
 use lib.Seq.{set_at, append_snoc}
+use Rattle.std.specs.Prelude.{◌&&◌}
+use Rattle.octets.specs.Prelude.{Bool}
 use Rattle.octets.specs.Numbers.{number_at}
 use Rattle.octets.proofs.Numbers.{number-drop}
 use Rattle.octets.proofs.Truth.{same_truth, both_true}
@@ -54,6 +56,25 @@ below-snoc q x [] h a = rw (lt-ltb _ _ h) refl
 below-snoc q x (y ∷ xs) h a =
     let b = (both_true (ltb y q) (all_below q xs)).0 a in
     rw b.0 (below-snoc q x xs h b.1)
+
+-- whether one more is below q too
+below-more : (q x : ℕ) (xs : List ℕ) → all_below q (xs ++ (x ∷ [])) ≡ all_below q xs && ltb x q
+unfolding all_below
+below-more q x [] = by (ltb x q)
+  where
+    by : (b : Bool) → b && true ≡ b
+    by true = refl
+    by false = refl
+below-more q x (y ∷ xs) = by (ltb y q) (below-more q x xs)
+  where
+    by : (b : Bool) → all_below q (xs ++ (x ∷ [])) ≡ all_below q xs && ltb x q
+        → b && all_below q (xs ++ (x ∷ [])) ≡ (b && all_below q xs) && ltb x q
+    by true e = e
+    by false e = refl
+
+pub below_with : (q : ℕ) (p : List ℕ) (k x : ℕ) (b : Bool) → b ≡ all_below q (entries_in k p) → x ≡ number_at 8 p (k * 8)
+    → b && ltb x q ≡ all_below q (entries_in (k + 1) p)
+below_with q p k x b h e = rw (entries_next, ← e, h) (sym (below-more q x (entries_in k p)))
 
 -- with the first k entries below q: entry k is below it too, or it is not
 pub below_next : (q : ℕ) (p : List ℕ) (k x : ℕ) → x ≡ number_at 8 p (k * 8) → x < q → all_below q (entries_in k p) ≡ true

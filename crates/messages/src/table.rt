@@ -8,19 +8,19 @@ ghost use Rattle.messages.specs.Requests.{entries_in, all_below};
 
 use crate::{FIELD, MAX_ENTRIES, Mapping};
 
-// Whether each of the first `count` entries of the payload is below the queue count.
+// Whether each of the first `count` entries of the payload is below the queue count. Without a way out of the loop the compiler takes
+// many entries at once.
 pub fn all_below(payload: &[u8], count: u8, queues: u8) -> bool
     requires { count * field_size ≤ length payload.now }
     ensures { result ≡ all_below queues (entries_in count payload.now) }
 {
+    let mut below = true;
     for k in 0..count {
         // All eight octets count: a high one makes the queue number large.
         let queue = octets::read_u64(payload, k as usize * FIELD);
-        if queue >= queues as u64 {
-            return false;
-        }
+        below &= queue < queues as u64;
     }
-    true
+    below
 }
 
 // The mapping of the first `count` entries of the payload, each of which fits an octet. Without a test in the loop the compiler
