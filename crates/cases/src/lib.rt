@@ -5,7 +5,7 @@
 ghost use Rattle.std.specs.Prelude.{◌≡◌, ◌+◌, ◌≤◌, ◌<◌, SomeIff};
 ghost use Rattle.octets.specs.Prelude.{length, []};
 ghost use Rattle.octets.specs.Numbers.{number_at};
-ghost use Rattle.cases.specs.Taking.{body_in, behind_case};
+ghost use Rattle.cases.specs.Taking.{no_kind, kind_in, body_in, behind_case};
 ghost use Rattle.io.specs.Counts.{IsPrefixLen};
 
 use arrayvec::ArrayVec;
@@ -72,6 +72,7 @@ pub fn load_part<R: Files>(rt: &R, part: u8, buffer: &mut [u8]) -> usize
 // nothing stands behind it.
 fn take_case<'a>(cases: &'a [u8]) -> (Case<'a>, &'a [u8])
     requires { 0 < length cases.now }
+    ensures kind { result.0.kind ≡ kind_in cases.now }
     ensures body { result.0.body.now ≡ body_in cases.now }
     ensures behind { result.1.now ≡ behind_case cases.now }
     ensures fewer { length result.1.now < length cases.now }
@@ -88,7 +89,7 @@ fn take_case<'a>(cases: &'a [u8]) -> (Case<'a>, &'a [u8])
 
 // A case cut short by the end of its file, behind which nothing stands.
 fn cut_case<'a>() -> (Case<'a>, &'a [u8])
-    ensures { (result.0.body.now ≡ []) × (result.1.now ≡ []) }
+    ensures { (result.0.kind ≡ no_kind) × (result.0.body.now ≡ []) × (result.1.now ≡ []) }
 {
     print_cut();
     (

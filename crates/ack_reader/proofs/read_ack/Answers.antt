@@ -9,11 +9,12 @@ use Rattle.ack_reader.proofs.read_ack.Goals as goal
 
 pub returns-then-carries_flags : goal.returns-then-carries_flags
 returns-then-carries_flags c =
+    let m = c.args.message.now in
     let flags = c.read_u64-flags.ensures in
     let size = c.read_u32-size.ensures in
-    let carries : carries_flags (request_of c.args.kind) (status_in c.args.message.now) ≡ true =
+    let carries : carries_flags (request_of c.args.kind) (status_in m) ≡ true =
     sym (rw c.read_u64-status.ensures at c.carries_flags.ensures) ∙ c.if-carries_flags.true in
-    let long : length c.args.message.now ≡ header_size + size_in c.args.message.now = omega (arith, c.if-message.false, c.if-message-size.false, size) in
+    let long : length m ≡ header_size + size_in m = omega (arith, c.if-message.false, c.if-message-size.false, size) in
     let type = sym c.read_u32.ensures ∙ c.if-read_u32-ne-ACK_TYPE.false in
     ap (λ (x : ℕ). value (status_and_flags success x)) flags
-    ∙ accept-flags c.args.kind c.args.message.now carries long type (sym size ∙ c.if-size.false) (rw flags at c.if-flags.false)
+    ∙ accept-flags c.args.kind m carries long type (sym size ∙ c.if-size.false) (rw flags at c.if-flags.false)
